@@ -1,3 +1,4 @@
 pub mod Answers
+pub mod GatedFilters
 pub mod RecordedHostData
 pub mod ToldAccountData

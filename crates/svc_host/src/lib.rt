@@ -3,6 +3,7 @@
 #![tactic(auto)]
 
 mod answers;
+mod gated_filter;
 mod log;
 mod recorded_host;
 mod recorder;
@@ -11,6 +12,7 @@ mod system_host;
 mod told_account;
 mod waiting;
 
+pub use gated_filter::GatedFilter;
 pub use log::Log;
 pub use recorded_host::RecordedHost;
 pub use recorder::Recorder;

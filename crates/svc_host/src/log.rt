@@ -7,6 +7,7 @@ use std::alloc::Global;
 use std::fmt::Write;
 use svc_base::{NoMemory, Sink, write_all};
 use svc_record::Entry;
+use svc_system::LogState;
 
 /// So many bytes of text are held back at most, before the line that makes them more.
 const HELD: usize = 65536;
@@ -39,28 +40,35 @@ impl<K: Sink> Log<K> {
         }
     }
 
-    /// Whether everything that was shown was written or is held back.
-    pub fn is_whole(&self) -> bool
-        ensures { result ≡ self.now.is_whole }
-    {
-        self.is_whole
+    /// Writes what is held back.
+    fn write_held(&mut self) {
+        if self.is_whole && !self.text.is_empty() {
+            self.is_whole = write_all(&mut self.sink, self.text.as_bytes()).is_ok();
+        }
+        self.text.clear();
     }
 }
 
 impl<K: Sink + Drop> Recorder for Log<K> {
     fn note(&mut self, entry: &Entry) {
         if self.text.len() >= HELD {
-            self.settle();
+            self.write_held();
         }
         if self.is_whole && put_line(&mut self.text, entry).is_err() {
             self.is_whole = false;
         }
     }
 
-    fn settle(&mut self) {
-        if self.is_whole && !self.text.is_empty() {
-            self.is_whole = write_all(&mut self.sink, self.text.as_bytes()).is_ok();
+    fn due(&self) -> Option<u64> {
+        None
+    }
+
+    fn settle(&mut self) -> LogState {
+        self.write_held();
+        if self.is_whole {
+            LogState::Whole
+        } else {
+            LogState::Cut
         }
-        self.text.clear();
     }
 }

@@ -13,6 +13,7 @@ use svc_base::NoMemory;
 use svc_graph::services::ServiceWithDependents;
 use svc_record::{Action, Event, Item};
 use svc_server::{Host, InnerHost, Next};
+use svc_system::earlier;
 
 /// A host that shows what it gave and was told to a recorder, and keeps of it the last event alone. So it
 /// tells its account however long the run is. The services that it is handed it lets go: what they do is
@@ -45,7 +46,7 @@ impl<H: InnerHost, K: Recorder, B> Model for RecordedHost<H, K, B> {
     ghost invariant = { λ h. H.keeps h.inner h.account.entries h.account.faults h.account.idles };
 }
 
-impl<H: InnerHost + Waiting, K: Recorder, B: ServiceWithDependents> RecordedHost<H, K, B> {
+impl<H: Waiting, K: Recorder, B: ServiceWithDependents> RecordedHost<H, K, B> {
     /// A host of a run that hasn't begun.
     pub fn new(inner: H, recorder: K) -> Self
         requires { H.keeps inner [] 0 0 }
@@ -63,7 +64,7 @@ impl<H: InnerHost + Waiting, K: Recorder, B: ServiceWithDependents> RecordedHost
     pub fn settle(&mut self)
         ensures { self.new ≡ record self.old { recorder = self.new.recorder } }
     {
-        self.recorder.settle();
+        let _ = self.recorder.settle();
     }
 
     /// The inner host.
@@ -75,7 +76,7 @@ impl<H: InnerHost + Waiting, K: Recorder, B: ServiceWithDependents> RecordedHost
 }
 
 /// It tells everything.
-impl<H: InnerHost + Waiting, K: Recorder, B: ServiceWithDependents> Host for RecordedHost<H, K, B> {
+impl<H: Waiting, K: Recorder, B: ServiceWithDependents> Host for RecordedHost<H, K, B> {
     type Service = B;
 
     ghost account = { λ h. Some (record { entries = h.entries; handed = map (handed_with B.named) h.handed }) };
@@ -111,12 +112,14 @@ impl<H: InnerHost + Waiting, K: Recorder, B: ServiceWithDependents> Host for Rec
     }
 
     fn wait_until(&mut self, due: Option<u64>) {
-        self.inner.wait_until(due);
+        self.inner.wait_until(earlier(due, self.recorder.due()));
     }
 
     fn next(&mut self) -> Next {
+        self.inner.advance();
         if self.inner.is_at_rest() {
-            self.recorder.settle();
+            let log = self.recorder.settle();
+            self.inner.tell_log(log);
         }
         match self.inner.give() {
             Some(Item::Event(event)) => {

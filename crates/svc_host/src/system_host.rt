@@ -12,7 +12,7 @@ use std::time::Clock;
 use svc_base::NoMemory;
 use svc_record::{Action, Item};
 use svc_server::InnerHost;
-use svc_system::System;
+use svc_system::{LogState, System};
 
 /// A host over the operating system, without its account.
 #[derive(Drop)]
@@ -86,7 +86,17 @@ impl<'a, R: Net<Listener = TcpListener, Stream = TcpStream> + Files<File = File>
 
 impl<'a, R: Net<Listener = TcpListener, Stream = TcpStream> + Files<File = File> + Clock> Waiting
     for SystemHost<'a, R> {
+    fn advance(&mut self) {
+        if self.answers.is_empty() {
+            self.system.advance();
+        }
+    }
+
     fn is_at_rest(&self) -> bool {
         self.answers.is_empty() && self.system.is_at_rest()
+    }
+
+    fn tell_log(&mut self, log: LogState) {
+        self.system.tell_log(log);
     }
 }

@@ -14,8 +14,10 @@ pub enum Ending {
     Words,
     /// The file was refused at this line, from 1; at 0 it is too long.
     Line(u64),
-    /// The file couldn't be read.
+    /// The file couldn't be read, or one that it names.
     ReadFault,
+    /// A file with the rules of a gate was refused.
+    Gate,
     /// This key asks for what the program doesn't do, or has a value that no server can run with.
     Config(Key),
     /// The log, the pid file, the control address or what watches sockets couldn't be opened.
@@ -47,7 +49,7 @@ impl Ending {
     {
         match self {
             Ending::Words => 2,
-            Ending::Line(_) => 3,
+            Ending::Line(_) | Ending::Gate => 3,
             Ending::ReadFault => 5,
             Ending::NoMemory | Ending::Run(Err(RunError::NoMemory)) => 7,
             Ending::Run(Ok(Outcome::Served | Outcome::TestPassed | Outcome::Parent(0))) => 0,
@@ -79,6 +81,7 @@ impl fmt::Display for EndLine {
             Ending::Words => write!(f, "status words"),
             Ending::Line(n) => write!(f, "status line {n}"),
             Ending::ReadFault => write!(f, "status read fault"),
+            Ending::Gate => write!(f, "status gate"),
             Ending::Config(key) => write!(f, "status config {}", key.name()),
             Ending::HostFault => write!(f, "status host fault"),
             Ending::NoService => write!(f, "status no service"),

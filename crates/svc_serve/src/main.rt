@@ -3,6 +3,8 @@
 #![tactic(auto)]
 
 mod ending;
+mod files;
+mod gates;
 mod notices;
 mod pid_file;
 mod reading;

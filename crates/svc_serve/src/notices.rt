@@ -4,6 +4,7 @@ use std::fs::File;
 use svc_base::Writing;
 use svc_host::{Log, Recorder};
 use svc_record::{Action, Entry, Event, Plan};
+use svc_system::LogState;
 
 /// The log, if there is one, and standard error, where services and addresses stand by their names.
 #[derive(Drop)]
@@ -82,12 +83,8 @@ impl<'a> Notices<'a> {
     }
 
     /// Says once that the log isn't whole.
-    fn say_log(&mut self) {
-        let is_whole = match &self.log {
-            Some(log) => log.is_whole(),
-            None => true,
-        };
-        if !is_whole && !self.is_said {
+    fn say_cut(&mut self) {
+        if !self.is_said {
             self.is_said = true;
             let rt = self.rt;
             let _ = eprintln!(rt; "svc serve: the log can't be written any more");
@@ -103,10 +100,18 @@ impl<'a> Recorder for Notices<'a> {
         }
     }
 
-    fn settle(&mut self) {
-        if let Some(log) = &mut self.log {
-            log.settle();
+    fn due(&self) -> Option<u64> {
+        None
+    }
+
+    fn settle(&mut self) -> LogState {
+        let state = match &mut self.log {
+            Some(log) => log.settle(),
+            None => LogState::Absent,
+        };
+        if state == LogState::Cut {
+            self.say_cut();
         }
-        self.say_log();
+        state
     }
 }

@@ -4,13 +4,13 @@ ghost use Rattle.std.specs.Prelude.{◌≡◌, ◌+◌, ◌++◌, ◌<◌, ◌�
 ghost use Rattle.svc_serve.specs.Files.{IsTaken, SaysScript};
 
 use crate::ending::Ending;
+use crate::files::{Unread, bytes_at};
 use std::alloc::Global;
-use std::fs;
 use std::fs::File;
 use std::mem::drop;
 use std::net::SocketAddr;
 use std::rt::Files;
-use svc_base::{NoMemory, ReadAllError, Reading, Text, read_all};
+use svc_base::{NoMemory, Text};
 use svc_conf::{Key, ServerConf};
 use svc_system::{ControlAddress, is_loopback};
 use svc_text::{Script, ScriptError, ServiceLine, parse};
@@ -31,15 +31,11 @@ pub(crate) struct FileText {
 fn bytes_of<R: Files<File = File>>(rt: &R, alloc: Global, path: &str) -> Result<Vec<u8>, Ending>
     ensures { IfOk result (λ v. length v.items ≤ 16777216) }
 {
-    let Ok(file) = fs::open(rt, path) else {
-        return Err(Ending::ReadFault);
-    };
-    let mut source = Reading::new(file);
-    match read_all(alloc, &mut source) {
+    match bytes_at(rt, alloc, path) {
         Ok(bytes) => Ok(bytes),
-        Err(ReadAllError::Fault) => Err(Ending::ReadFault),
-        Err(ReadAllError::TooLong) => Err(Ending::Line(0)),
-        Err(ReadAllError::NoMemory) => Err(Ending::NoMemory),
+        Err(Unread::Fault) => Err(Ending::ReadFault),
+        Err(Unread::TooLong) => Err(Ending::Line(0)),
+        Err(Unread::NoMemory) => Err(Ending::NoMemory),
     }
 }
 

@@ -1,10 +1,11 @@
 //! The run.
 
-ghost use Rattle.std.specs.Prelude.{length, IfOk};
+ghost use Rattle.std.specs.Prelude.{◌≡◌, length, IfOk};
 ghost use Rattle.svc_server.specs.Servers.{answers_of, IsSound};
 ghost use Rattle.svc_serve.specs.Files.{IsTaken};
 
 use crate::ending::Ending;
+use crate::gates::filters_of;
 use crate::notices::Notices;
 use crate::pid_file::{PidFile, PidRefused};
 use crate::reading::{FileText, control_of, pid_path_of, read_text, refused_key};
@@ -15,8 +16,9 @@ use std::mem::drop;
 use svc_base::{NoMemory, Text, Writing};
 use svc_conf::{Opt, ServerConf};
 use svc_graph::services::ServiceWithDependents;
-use svc_host::{Log, ServedServer, SystemHost, run_served};
-use svc_services::{ScriptService, configured_script};
+use svc_host::{GatedFilter, Log, ServedServer, SystemHost, run_served};
+use svc_services::{ScriptService, filtered_script};
+use svc_streams::Filters;
 use svc_system::{ControlAddress, OpenRefused, System};
 use svc_text::{Script, ScriptError};
 use svc_work::WorkLine;
@@ -241,15 +243,35 @@ fn run(rt: &HostRuntime, server: ServedServer, outside: Outside) -> Ending
     }
 }
 
-/// Runs the server of a script.
-fn run_script(rt: &HostRuntime, script: Script, outside: Outside) -> Ending
-    requires { IsTaken script }
+/// Runs the server of a script, whose services have these filters.
+fn run_filtered(
+    rt: &HostRuntime,
+    script: Script,
+    filters: Filters<GatedFilter>,
+    outside: Outside,
+) -> Ending
+    requires taken { IsTaken script }
+    requires filters { length filters ≡ length script.services.items }
 {
-    match configured_script(rt.alloc(), Opt::default(), script) {
+    match filtered_script(rt.alloc(), Opt::default(), script, filters) {
         Ok(server) => run(rt, server, outside),
         Err(refused) => {
             drop(outside);
             refuse_server(rt, refused)
+        }
+    }
+}
+
+/// Runs the server of a script.
+fn run_script(rt: &HostRuntime, script: Script, outside: Outside) -> Ending
+    requires { IsTaken script }
+{
+    match filters_of(rt, script.services.as_slice(), outside.works.as_slice()) {
+        Ok(filters) => run_filtered(rt, script, filters, outside),
+        Err(ending) => {
+            drop(script);
+            drop(outside);
+            ending
         }
     }
 }

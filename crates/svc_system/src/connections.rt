@@ -53,6 +53,8 @@ pub(crate) enum Turn {
     More,
     /// The application is done with it.
     Over,
+    /// The same: it can't be connected to where it is to go on.
+    Unconnected,
 }
 
 /// The live ones, and the number of the next one.

@@ -115,7 +115,7 @@ impl Forward {
     {
         if !self.is_there() {
             return if self.has_failed() {
-                Turn::Over
+                Turn::Unconnected
             } else {
                 Turn::Waits
             };

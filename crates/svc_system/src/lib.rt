@@ -19,5 +19,7 @@ mod tokens;
 
 pub use address::{ControlAddress, is_loopback};
 pub use orders::{Order, OrderLine, order_of};
+pub use report::LogState;
 pub use standard::{StandardDescriptors, hold_standard_descriptors};
 pub use system::{OpenRefused, System};
+pub use times::earlier;

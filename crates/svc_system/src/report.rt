@@ -15,13 +15,44 @@ struct Counts {
     failed: u64,
 }
 
+/// What became of a server's record.
+#[derive(Clone, Copy, PartialEq, Eq, Debug)]
+pub enum LogState {
+    /// It isn't written.
+    Absent,
+    /// It is written so far.
+    Whole,
+    /// It couldn't be written any more from some line on.
+    Cut,
+}
+
+impl LogState {
+    /// Its word.
+    fn word(self) -> &'static str {
+        match self {
+            LogState::Absent => "none",
+            LogState::Whole => "whole",
+            LogState::Cut => "cut",
+        }
+    }
+}
+
+/// What is counted of a server's sockets.
+#[derive(Clone, Copy)]
+pub(crate) struct SocketCounts {
+    pub listeners: usize,
+    pub connections: usize,
+    /// So many connections could not go on to where their service forwards.
+    pub failed_connects: u64,
+}
+
 /// How a server is.
 #[derive(Clone, Copy)]
 pub(crate) struct Report {
     phase: ExecutionPhase,
     services: Counts,
-    listeners: usize,
-    connections: usize,
+    sockets: SocketCounts,
+    log: LogState,
 }
 
 /// How many services are how far.
@@ -45,18 +76,18 @@ fn counts_of(services: &[Service]) -> Counts {
 }
 
 impl Report {
-    /// How a server is with these services, and with so many listening sockets and connections.
+    /// How a server is with these services, sockets and log.
     pub(crate) fn new(
         phase: ExecutionPhase,
         services: &[Service],
-        listeners: usize,
-        connections: usize,
+        sockets: SocketCounts,
+        log: LogState,
     ) -> Self {
         Report {
             phase,
             services: counts_of(services),
-            listeners,
-            connections,
+            sockets,
+            log,
         }
     }
 
@@ -70,14 +101,19 @@ impl Report {
             waiting,
             failed,
         } = self.services;
-        let listeners = self.listeners;
-        let connections = self.connections;
+        let SocketCounts {
+            listeners,
+            connections,
+            failed_connects,
+        } = self.sockets;
+        let log = self.log.word();
         write!(
             text,
             "ok phase {phase}; services serving {serving}, starting {starting}, "
         )?;
         write!(text, "waiting {waiting}, failed {failed}; ")?;
-        writeln!(text, "listeners {listeners}; connections {connections}")?;
+        write!(text, "listeners {listeners}; connections {connections}; ")?;
+        writeln!(text, "failed connects {failed_connects}; log {log}")?;
         Ok(text)
     }
 }

@@ -13,7 +13,7 @@ use crate::endpoints::Endpoints;
 use crate::listeners::{BindRefused, Came, Listeners, Socket};
 use crate::operators::{Admitted, ControlRefused, Operators};
 use crate::readiness::Readiness;
-use crate::report::Report;
+use crate::report::{LogState, Report, SocketCounts};
 use crate::times::{Times, sooner};
 use crate::tokens::Ready;
 use std::alloc::Global;
@@ -73,6 +73,13 @@ impl From<ControlRefused> for OpenRefused {
     }
 }
 
+/// An event that was found and not given yet.
+#[derive(Drop)]
+struct Found {
+    event: Event,
+    ghost few: { length (numbers_of (Got event)) ≤ 32 }
+}
+
 /// What one look gave.
 enum Look {
     Event(Event),
@@ -97,11 +104,15 @@ pub struct System<
     phase: ExecutionPhase,
     /// What operators asked for and wasn't given yet.
     signal: Option<ShutdownSignal>,
+    found: Option<Found>,
+    /// So many connections could not go on to where their service forwards.
+    failed_connects: u64,
+    log: LogState,
     is_draining: bool,
     /// Every service was given up, and the server was asked to end.
     is_forsaken: bool,
     has_ended: bool,
-    /// Memory was refused for what is ready.
+    /// Memory was refused for what is ready, or the system can't be asked.
     has_failed: bool,
 }
 
@@ -218,6 +229,9 @@ impl<'a, R: Net<Listener = TcpListener, Stream = TcpStream> + Files<File = File>
                 operators,
                 phase: ExecutionPhase::Setup,
                 signal: None,
+                found: None,
+                failed_connects: 0,
+                log: LogState::Absent,
                 is_draining: false,
                 is_forsaken: false,
                 has_ended: false,
@@ -355,6 +369,11 @@ impl<'a, R: Net<Listener = TcpListener, Stream = TcpStream> + Files<File = File>
         }
     }
 
+    /// One more connection can't go on.
+    fn count_failed_connect(&mut self) {
+        self.failed_connects = self.failed_connects.saturating_add(1);
+    }
+
     /// The application has the connection. One that can't be watched, or can't go on to where its service
     /// forwards, is done with at once.
     fn serve(&mut self, c: u64) -> Option<Event>
@@ -362,9 +381,13 @@ impl<'a, R: Net<Listener = TcpListener, Stream = TcpStream> + Files<File = File>
         ensures answers { IfSome result (λ e. e ≡ Event.Finished c) }
     {
         let target = self.endpoints.target(self.connections.service(c));
+        let is_forwarded = target.is_some();
         let is_served = self.connections.serve(self.rt, c, target, &self.readiness);
         if is_served {
             return None;
+        }
+        if is_forwarded {
+            self.count_failed_connect();
         }
         self.connections.remove(c);
         Some(Event::Finished(c))
@@ -471,12 +494,24 @@ impl<'a, R: Net<Listener = TcpListener, Stream = TcpStream> + Files<File = File>
 
     /// How the server is.
     fn report(&self) -> Report {
+        let sockets = SocketCounts {
+            listeners: self.listeners.count(),
+            connections: self.connections.count(),
+            failed_connects: self.failed_connects,
+        };
         Report::new(
             self.phase,
             self.endpoints.services.as_slice(),
-            self.listeners.count(),
-            self.connections.count(),
+            sockets,
+            self.log,
         )
+    }
+
+    /// Is told what became of the record so far.
+    pub fn tell_log(&mut self, log: LogState)
+        ensures { self.new ≡ record self.old { log = log } }
+    {
+        self.log = log;
     }
 
     /// Takes the operators who came.
@@ -568,7 +603,7 @@ impl<'a, R: Net<Listener = TcpListener, Stream = TcpStream> + Files<File = File>
     }
 
     /// A connection has its turn.
-    fn advance(&mut self, c: u64) -> Look
+    fn turn_connection(&mut self, c: u64) -> Look
         ensures { GivesFew result }
     {
         match self.connections.turn(c) {
@@ -577,11 +612,20 @@ impl<'a, R: Net<Listener = TcpListener, Stream = TcpStream> + Files<File = File>
                 self.wake(Ready::Connection(c));
                 Look::Nothing
             }
-            Turn::Over => {
-                self.connections.remove(c);
-                Look::Event(Event::Finished(c))
+            Turn::Over => self.finish(c),
+            Turn::Unconnected => {
+                self.count_failed_connect();
+                self.finish(c)
             }
         }
+    }
+
+    /// The application is done with a connection.
+    fn finish(&mut self, c: u64) -> Look
+        ensures { GivesFew result }
+    {
+        self.connections.remove(c);
+        Look::Event(Event::Finished(c))
     }
 
     /// What is ready has its turn.
@@ -598,7 +642,7 @@ impl<'a, R: Net<Listener = TcpListener, Stream = TcpStream> + Files<File = File>
                 Look::Nothing
             }
             Ready::Listener(fd) => self.accept(fd),
-            Ready::Connection(c) => self.advance(c),
+            Ready::Connection(c) => self.turn_connection(c),
         }
     }
 
@@ -679,9 +723,34 @@ impl<'a, R: Net<Listener = TcpListener, Stream = TcpStream> + Files<File = File>
 
     /// Nothing is ready, and nothing is to be told: what comes next has to be waited for.
     pub fn is_at_rest(&self) -> bool
-        ensures { result ≡ true → self.now.signal ≡ None }
+        ensures signal { result ≡ true → self.now.signal ≡ None }
+        ensures found { result ≡ true → self.now.found ≡ None }
     {
-        self.readiness.is_empty() && self.signal.is_none()
+        self.readiness.is_empty() && self.signal.is_none() && self.found.is_none()
+    }
+
+    /// Looks once, and keeps what that gives.
+    fn look_ahead(&mut self) {
+        match self.look() {
+            Look::Event(event) => self.found = Some(Found { event }),
+            Look::Failed => self.has_failed = true,
+            Look::Nothing => {}
+        }
+    }
+
+    /// There is something to give, or nothing is ready.
+    fn is_ahead(&self) -> bool {
+        self.has_ended || self.has_failed || self.found.is_some() || self.is_at_rest()
+    }
+
+    /// What is ready has its turn, until there is something to give or nothing is ready. It doesn't wait.
+    pub fn advance(&mut self) {
+        for _ in 0..u64::MAX {
+            if self.is_ahead() {
+                return;
+            }
+            self.look_ahead();
+        }
     }
 
     /// What comes next. It waits until something does. None where the server has ended, and a fault where
@@ -691,6 +760,9 @@ impl<'a, R: Net<Listener = TcpListener, Stream = TcpStream> + Files<File = File>
     {
         if self.has_ended {
             return None;
+        }
+        if let Some(found) = self.found.take() {
+            return Some(Item::Event(found.event));
         }
         for _ in 0..u64::MAX {
             match self.look() {

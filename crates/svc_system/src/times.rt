@@ -24,7 +24,7 @@ pub(crate) struct Times {
     pub readies: Option<u64>,
 }
 
-/// The earlier of the two, where the first is known.
+/// The earlier of two moments, where the first is known.
 pub(crate) fn sooner(known: Option<u64>, other: u64) -> Option<u64>
     ensures { IfSome result (λ n. n ≤ other) }
 {
@@ -42,8 +42,8 @@ fn is_there(moment: Option<u64>, now: u64) -> bool {
     }
 }
 
-/// The earlier of two that are perhaps known.
-fn earlier(a: Option<u64>, b: Option<u64>) -> Option<u64> {
+/// The earlier of two moments that are perhaps known.
+pub fn earlier(a: Option<u64>, b: Option<u64>) -> Option<u64> {
     match b {
         Some(moment) => sooner(a, moment),
         None => a,
