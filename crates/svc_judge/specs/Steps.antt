@@ -83,7 +83,8 @@ has_rested p q ms = is_over p q && nat_le 5000 (ms - over_moment p q)
 
 -- why the server couldn't take over, if it couldn't
 abbrev pub failed_end : Plan → Record → StepEnd
-failed_end p q = if ends_transfer q then Ended Transfer else (if ends_no_sender p q then Ended NoSender else (if ends_bad_message q then Ended BadMessage else On))
+failed_end p q =
+    if ends_transfer q then Ended Transfer else (if ends_no_sender p q then Ended NoSender else (if ends_bad_message q then Ended BadMessage else On))
 
 -- a service that bootstraps was started
 abbrev pub has_boot_service : Plan → Record → Bool

@@ -115,7 +115,8 @@ reason_is fault reason none (inr stands) = absurd (cc)
 
 -- a service of the script is refused for want of memory alone
 pub only_memory : (filtered : Filtered) (lines : List ServiceLine) (k : ℕ) (line : ServiceLine) (g : GraphData) (filters : ℕ) (answers : List ServicePlan)
-    (plan : ServicePlan) (reason : AddError) → AreAccepted lines → AreEnough filtered lines filters → HasFirst (number_behind filtered) lines k g filters answers
+    (plan : ServicePlan) (reason : AddError) → AreAccepted lines → AreEnough filtered lines filters
+    → HasFirst (number_behind filtered) lines k g filters answers
     → k < length lines → line ≡ get_or lines k line → plan ≡ answered (number_behind filtered (take k lines) line) line
     → IsReason (fault_of g filters plan) reason → reason ≡ NoMemory
 only_memory filtered lines k line g filters answers plan reason ok enough first lt read says r =

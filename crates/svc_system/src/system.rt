@@ -77,7 +77,7 @@ impl From<ControlRefused> for OpenRefused {
 #[derive(Drop)]
 struct Found {
     event: Event,
-    ghost few: { length (numbers_of (Got event)) ≤ 32 }
+    ghost few: { length (numbers_of (Got event)) ≤ 32 },
 }
 
 /// What one look gave.

@@ -26,7 +26,8 @@ pub(crate) struct Times {
 
 /// The earlier of two moments, where the first is known.
 pub(crate) fn sooner(known: Option<u64>, other: u64) -> Option<u64>
-    ensures { IfSome result (λ n. n ≤ other) }
+    ensures known { IfSome known (λ m. IfSome result (λ n. n ≤ m)) }
+    ensures other { IfSome result (λ n. n ≤ other) }
 {
     match known {
         Some(moment) => Some(moment.min(other)),
@@ -43,7 +44,10 @@ fn is_there(moment: Option<u64>, now: u64) -> bool {
 }
 
 /// The earlier of two moments that are perhaps known.
-pub fn earlier(a: Option<u64>, b: Option<u64>) -> Option<u64> {
+pub fn earlier(a: Option<u64>, b: Option<u64>) -> Option<u64>
+    ensures first { IfSome a (λ m. IfSome result (λ n. n ≤ m)) }
+    ensures second { IfSome b (λ m. IfSome result (λ n. n ≤ m)) }
+{
     match b {
         Some(moment) => sooner(a, moment),
         None => a,

@@ -1,4 +1,4 @@
-use Rattle.std.proofs.Common.{ℕ, Option, arith, ap, ◌∙◌, length, subst, sym, refl}
+use Rattle.std.proofs.Common.{ℕ, Option, arith, ap, ◌∙◌, length, subst, sym}
 use Rattle.svc_server.specs.Servers.{answer_of}
 use Rattle.svc_services.specs.Filtered.{number_behind, AreEnough}
 use Rattle.svc_services.specs.Services.{answered}

@@ -9,5 +9,6 @@ abbrev pub invariant-loop-k : goal.invariant-loop-k
 invariant-loop-k g l = record {
   eager : l.server.eager ≡ false;
   filters : l.server.filters ≡ l.fn.filters;
-  first : HasFirst (number_behind l.filtered) l.lines l.k l.server.dependencies (length l.server.filters) (answers_of services.TheImpl.ghosts l.server.services.items);
+  first : HasFirst (number_behind l.filtered) l.lines l.k l.server.dependencies (length l.server.filters)
+      (answers_of services.TheImpl.ghosts l.server.services.items);
 }

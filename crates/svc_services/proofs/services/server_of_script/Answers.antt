@@ -1,5 +1,4 @@
 use Rattle.svc_services.proofs.AcceptedLemmas.{enough_filters}
-use Rattle.svc_services.proofs.ServerLemmas.{has_lines}
 use Rattle.svc_services.proofs.services.server_of_script.Goals as goal
 
 pub linked-requires-clause-enough : goal.linked-requires-clause-enough
