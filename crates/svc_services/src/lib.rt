@@ -7,4 +7,4 @@ mod services;
 
 pub use script_filter::ScriptFilter;
 pub use script_service::ScriptService;
-pub use services::{configured, configured_script, server_of_script, server_of_services};
+pub use services::{configured, filtered_script, server_of_script, server_of_services};

@@ -10,7 +10,7 @@ ghost use Rattle.svc_text.specs.declared.parsing.ScriptError.TheVariants as erro
 ghost use Rattle.svc_server.specs.declared.server.refusals.AddError.TheVariants as refusals;
 ghost use Rattle.svc_server.specs.Servers.{answers_of, IsSound};
 ghost use Rattle.svc_services.specs.Filtered.{number_behind, AreEnough};
-ghost use Rattle.svc_services.specs.Services.{HasServices, HasLines, IsServerOf, IsFilteredServerOf};
+ghost use Rattle.svc_services.specs.Services.{HasServices, HasLines, IsFilteredServerOf};
 
 use crate::script_filter::{ScriptFilter, filters_of};
 use crate::script_service::ScriptService;
@@ -252,32 +252,9 @@ fn with_script<F: ConnectionFilter>(
     configured(server, conf, opt, eager)
 }
 
-/// The server of a script with these flags, without the script's events: they come of elsewhere. `Line` with
-/// the line of the first service whose dependencies are refused.
-pub fn configured_script(
-    alloc: Global,
-    opt: Opt,
-    script: Script,
-) -> Result<Server<ScriptService, ScriptFilter>, ScriptError>
-    requires accepted { AreAccepted script.services.items }
-    requires lines { length script.lines.items ≡ length script.services.items }
-    ensures server { IfOk result (λ server. IsServerOf opt (parts_of script) server.configuration server.options server.eager
-        server.dependencies server.filters (answers_of ⟦<ScriptService as ServiceWithDependents>⟧ server.services.items)) }
-    ensures refused { IfErr result (λ error. (n : ℕ) → error ≡ errors.Line n
-        → (k : ℕ) × (RefusesAt script.services.items k × (n ≡ slice_index script.lines.items k))) }
-{
-    match server_of_script(alloc, &script) {
-        Ok(server) => Ok(with_script(server, opt, script)),
-        Err(error) => {
-            drop(opt);
-            drop(script);
-            Err(error)
-        }
-    }
-}
-
-/// The same with a filter for each service, which has the service's number. What the script's services block
-/// is for these filters to refuse.
+/// The server of a script with these flags and a filter for each service, which has the service's number.
+/// What the script's services block is for these filters to refuse, and the script's events come of
+/// elsewhere. `Line` with the line of the first service whose dependencies are refused.
 pub fn filtered_script<F: ConnectionFilter>(
     alloc: Global,
     opt: Opt,
