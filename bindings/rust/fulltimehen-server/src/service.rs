@@ -115,11 +115,14 @@ impl Task {
     }
 }
 
+/// A handler that gets the connection at once.
+pub(crate) type Plain = Arc<dyn Fn(Connection) -> Work + Send + Sync>;
+
 /// What a listening service does with a connection.
 #[derive(Clone)]
 pub(crate) enum Handler {
     /// The handler gets the connection at once.
-    Plain(Arc<dyn Fn(Connection) -> Work + Send + Sync>),
+    Plain(Plain),
     /// A handshake comes first, which answers the handler's work.
     Shaking(Arc<dyn Fn(Connection) -> Handshake + Send + Sync>),
 }
