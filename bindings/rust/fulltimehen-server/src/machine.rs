@@ -205,7 +205,8 @@ impl Direct {
             }
         }
         machine.actions = actions;
-        if !others.is_empty() {
+        // Where the run is over by now, the driver is to see it.
+        if !others.is_empty() || !machine.is_on() {
             self.inputs.give(Input::Told(others));
         }
         None
