@@ -3,7 +3,7 @@
 
 use crate::accept::{Arrival, Place};
 use crate::beat::Beat;
-use crate::connection::{Common, Connection, Guard};
+use crate::connection::{Common, Guard, Served};
 use crate::driver::{FinishedList, Input, Inputs};
 use crate::limits::Seat;
 use crate::listener::Accepted;
@@ -139,23 +139,6 @@ impl Machine {
     }
 }
 
-/// Begins the handler of a connection that is to be served.
-pub(crate) fn serve(
-    handle: &Plain,
-    (stream, peer): (Accepted, Peer),
-    guard: Arc<Guard>,
-    handlers: &Handle,
-) -> JoinHandle<()> {
-    let handle = Arc::clone(handle);
-    handlers.spawn(async move {
-        match Connection::new(stream, peer, Arc::clone(&guard)) {
-            Ok(connection) => handle(connection).await,
-            Err(error) => tracing::warn!("a connection isn't served: {error}"),
-        }
-        drop(guard);
-    })
-}
-
 /// What an accept loop has to serve its connections itself: nobody is asked whether they come in, and no handshake is due.
 #[derive(Clone)]
 pub(crate) struct Direct {
@@ -248,9 +231,9 @@ impl Direct {
                 if let Some((stream, seat)) = coming.stream.take() {
                     let common: Arc<dyn Common> = self.finished.clone();
                     let guard = Guard { number: own, service: coming.service, common, _seat: seat };
+                    let served = Served { stream, peer: coming.peer, guard: Arc::new(guard) };
                     self.beat.go_on(&self.handlers);
-                    let stream = (stream, coming.peer);
-                    let task = serve(&self.handle, stream, Arc::new(guard), &self.handlers);
+                    let task = (self.handle)(served, &self.handlers);
                     machine.connections.insert(own, Known::Live(task));
                 }
                 Ok(None)

@@ -2,11 +2,11 @@
 
 use super::{Driver, Input, Socket, Wanted};
 use crate::accept::{self, Arrival, Loop, Place, Polled};
-use crate::connection::{Common, Connection, Guard};
+use crate::connection::{Common, Connection, Guard, Served};
 use crate::limits::Seat;
 use crate::listener::{Address, Listener};
 use crate::log::say;
-use crate::machine::{Direct, Known, lock, serve};
+use crate::machine::{Direct, Known, lock};
 use crate::pid_file::FileId;
 use crate::service::{Handler, Kind, Task};
 use crate::succession::Held;
@@ -380,7 +380,8 @@ impl Driver {
         let (go, goes) = oneshot::channel();
         let mut answer = Answered { connection, inputs: Some(self.inputs.clone()) };
         let task = self.setup.handlers.spawn(async move {
-            let Ok(made) = Connection::new(stream, peer, Arc::clone(&guard)) else {
+            let served = Served { stream, peer, guard: Arc::clone(&guard) };
+            let Ok(made) = Connection::new(served) else {
                 return;
             };
             match timeout(HANDSHAKE, shake(made)).await {
@@ -409,7 +410,7 @@ impl Driver {
             ) => {
                 let guard = self.guard(connection, service, seat);
                 self.beat.go_on(&self.setup.handlers);
-                Known::Live(serve(&handle, (stream, peer), guard, &self.setup.handlers))
+                Known::Live(handle(Served { stream, peer, guard }, &self.setup.handlers))
             }
             // Where its task is gone, it says so itself.
             (Some(Known::Shaking { task, go }), _) => {
