@@ -1,8 +1,10 @@
-//! Accept loops. They run beside the handlers, and give the core's task what came at once: it is woken once for many.
+//! Accept loops. They run beside the handlers, and serve what comes by the core's word; or they give the driver what came at once, which
+//! is woken once for many.
 
 use crate::driver::{Input, Inputs};
 use crate::limits::{Room, Seat};
 use crate::listener::{Accepted, Listener};
+use crate::machine::Direct;
 use fulltimehen::Peer;
 use std::io;
 use std::sync::Arc;
@@ -47,6 +49,8 @@ pub(crate) struct Loop {
     pub(crate) number: u64,
     pub(crate) inputs: Inputs,
     pub(crate) room: Room,
+    /// Where it serves its connections itself.
+    pub(crate) direct: Option<Direct>,
 }
 
 impl Drop for Loop {
@@ -90,14 +94,14 @@ impl Loop {
         // Another program that has the socket may have it block again.
         _ = listener.get_ref().unblock();
         let (mut came, mut pause) = (Vec::new(), Pause::Turn);
-        while came.len() < BURST {
+        for _ in 0..BURST {
             let Some(seat) = self.room.try_enter() else {
                 pause = Pause::Full;
                 break;
             };
             match guard.try_io(|listener| listener.get_ref().accept()) {
                 Err(_) => break,
-                Ok(Ok((stream, peer))) => came.push(Arrival { stream, peer, seat }),
+                Ok(Ok((stream, peer))) => came.extend(self.arrived(Arrival { stream, peer, seat })),
                 Ok(Err(error)) => {
                     pause = Pause::Failed(error);
                     break;
@@ -108,6 +112,14 @@ impl Loop {
             self.inputs.give(Input::Arrived { place: self.place, came });
         }
         Ok(pause)
+    }
+
+    /// Serves a connection, or answers it for the driver.
+    fn arrived(&self, arrival: Arrival) -> Option<Arrival> {
+        match &self.direct {
+            Some(direct) => direct.take(self.place, arrival),
+            None => Some(arrival),
+        }
     }
 
     /// Rests where the core says so, or where other connections would fail, too.

@@ -15,7 +15,7 @@ const BEAT: Duration = Duration::from_millis(500);
 const TIMES: u8 = 2;
 
 /// How often it still beats.
-#[derive(Default)]
+#[derive(Clone, Default)]
 pub(crate) struct Beat(Arc<AtomicU8>);
 
 impl Beat {

@@ -160,9 +160,17 @@ impl fmt::Debug for Connection {
     }
 }
 
+/// What a connection is made of, where its handler runs.
+pub(crate) struct Served {
+    pub(crate) stream: Accepted,
+    pub(crate) peer: Peer,
+    pub(crate) guard: Arc<Guard>,
+}
+
 impl Connection {
-    pub(crate) fn new(accepted: Accepted, peer: Peer, guard: Arc<Guard>) -> io::Result<Connection> {
-        let stream = match accepted {
+    pub(crate) fn new(served: Served) -> io::Result<Connection> {
+        let Served { stream, peer, guard } = served;
+        let stream = match stream {
             Accepted::Tcp(stream, _) => Stream::Tcp(TcpStream::from_std(stream)?),
             Accepted::Unix(stream) => Stream::Unix(UnixStream::from_std(stream)?),
         };

@@ -1,4 +1,5 @@
-//! The core's one task: what happens becomes events, and what the core tells is carried out.
+//! The driver: what happens becomes events, and what the core tells is carried out. A connection before which nobody is asked has its
+//! steps in its accept loop (`machine.rs`).
 
 mod handing;
 mod told;
@@ -8,9 +9,10 @@ use crate::beat::Beat;
 use crate::connection::{Common, Shutdown};
 use crate::error::{Outcome, ServerError};
 use crate::handover::PrivateSocket;
-use crate::limits::{Room, Seat};
-use crate::listener::{Accepted, KeepAlive, Listener};
+use crate::limits::Room;
+use crate::listener::{KeepAlive, Listener};
 use crate::log::say;
+use crate::machine::{Known, Machine, SharedMachine, lock};
 use crate::pid_file::FileId;
 use crate::process::Process;
 use crate::service::Service;
@@ -18,12 +20,11 @@ use crate::signals::Signals;
 use crate::succession::{Held, Shared};
 use crate::takeover::{Addresses, Ended};
 use fulltimehen::{
-    Action, Core, CoreError, End, Event, Numbers, OnStray, Peer, Phase, Plan, Record, RunningCore,
-    Signal,
+    Action, Core, CoreError, End, Event, Numbers, OnStray, Phase, Plan, Record, RunningCore, Signal,
 };
-use std::collections::{BTreeMap, HashMap, HashSet, VecDeque};
-use std::hash::{BuildHasherDefault, Hasher};
+use std::collections::{BTreeMap, HashSet, VecDeque};
 use std::io;
+use std::mem;
 use std::os::fd::AsFd;
 use std::panic::{AssertUnwindSafe, catch_unwind};
 use std::path::PathBuf;
@@ -64,6 +65,10 @@ pub(crate) enum Input {
     },
     /// Connections are done with.
     Finished,
+    /// What the step of a connection told that isn't about it.
+    Told(Vec<Action>),
+    /// The core refused an event of a connection.
+    Refused(Event, CoreError),
     Ready(u32),
     Ended {
         service: u32,
@@ -103,7 +108,7 @@ impl Inputs {
 
 /// The connections that are done with. The core hears of them when it looks, and it is woken for them only
 /// where they are many or it waits for them: so a connection costs no wakeup of its own.
-struct FinishedList {
+pub(crate) struct FinishedList {
     numbers: Mutex<Vec<u64>>,
     /// The core waits for them.
     is_awaited: AtomicBool,
@@ -114,27 +119,8 @@ struct FinishedList {
 
 impl FinishedList {
     /// Swaps the numbers for an empty list.
-    fn swap(&self, empty: &mut Vec<u64>) {
+    pub(crate) fn swap(&self, empty: &mut Vec<u64>) {
         std::mem::swap(&mut *self.numbers.lock().unwrap_or_else(PoisonError::into_inner), empty);
-    }
-}
-
-/// Hashes a connection's number by itself: numbers ascend, and the server gives them.
-#[derive(Default)]
-struct NumberHasher(u64);
-
-impl Hasher for NumberHasher {
-    fn finish(&self) -> u64 {
-        self.0
-    }
-
-    fn write(&mut self, _: &[u8]) {
-        unreachable!("a number is written")
-    }
-
-    fn write_u64(&mut self, number: u64) {
-        // The table looks at the highest bits, too.
-        self.0 = number.wrapping_mul(0x9e37_79b9_7f4a_7c15);
     }
 }
 
@@ -157,25 +143,6 @@ impl Common for FinishedList {
             self.inputs.give(Input::Finished);
         }
     }
-}
-
-/// A connection that the core knows.
-enum Known {
-    /// It was accepted.
-    Waiting {
-        stream: Accepted,
-        peer: Peer,
-        service: u32,
-        seat: Seat,
-    },
-    /// It shakes hands, and waits then for the core's word.
-    Shaking {
-        task: JoinHandle<()>,
-        go: oneshot::Sender<()>,
-    },
-    Live(JoinHandle<()>),
-    /// Its handler is gone already.
-    Over,
 }
 
 /// A listening socket, by the number that the core has for it.
@@ -237,8 +204,7 @@ enum Wanted {
 
 pub(crate) struct Driver {
     setup: Setup,
-    core: RunningCore,
-    record: Option<Record>,
+    machine: SharedMachine,
     inputs: Inputs,
     events: VecDeque<Event>,
     /// Room for what a step tells.
@@ -248,13 +214,11 @@ pub(crate) struct Driver {
     /// The core isn't told the time, so that it goes on serving.
     frozen: bool,
     numbers: Numbers,
-    connection_numbers: Numbers,
     sockets: BTreeMap<u64, Socket>,
     loops: BTreeMap<Place, (u64, Vec<JoinHandle<()>>)>,
     /// Those that were told to end, and haven't ended.
     ending: BTreeMap<Place, (u64, Vec<JoinHandle<()>>)>,
     room: Room,
-    connections: HashMap<u64, Known, BuildHasherDefault<NumberHasher>>,
     finished: Arc<FinishedList>,
     /// Room for what is taken out of that list.
     done_with: Vec<u64>,
@@ -298,8 +262,7 @@ impl Driver {
             names: setup.services.iter().map(|service| service.name.clone()).collect(),
         });
         Ok(Driver {
-            core,
-            record,
+            machine: Machine::shared(core, record),
             inputs,
             events: VecDeque::new(),
             actions: Vec::new(),
@@ -307,12 +270,10 @@ impl Driver {
             moment: 0,
             frozen: false,
             numbers: Numbers::new(),
-            connection_numbers: Numbers::new(),
             sockets: BTreeMap::new(),
             loops: BTreeMap::new(),
             ending: BTreeMap::new(),
             room: Room::within_limit(setup.addresses.len()),
-            connections: HashMap::default(),
             finished,
             done_with: Vec::new(),
             beat: Beat::default(),
@@ -349,7 +310,7 @@ impl Driver {
         let mut next_sign = watchdog.map(|every| Instant::now() + every);
         loop {
             self.settle();
-            if self.core.end() != End::On || self.stopped {
+            if !self.is_on() || self.stopped {
                 break;
             }
             let due = [self.due(), next_sign].into_iter().flatten().min();
@@ -371,7 +332,7 @@ impl Driver {
                             self.settle();
                         }
                         self.take(input);
-                        if self.core.end() != End::On {
+                        if !self.is_on() {
                             break;
                         }
                     }
@@ -398,14 +359,24 @@ impl Driver {
         u64::try_from(self.began.elapsed().as_millis()).unwrap_or(u64::MAX)
     }
 
+    /// The core's run goes on.
+    fn is_on(&self) -> bool {
+        lock(&self.machine).is_on()
+    }
+
+    fn next_due(&self) -> Option<u64> {
+        let mut machine = lock(&self.machine);
+        machine.core.as_mut().and_then(RunningCore::next_due)
+    }
+
     /// When the core wants to be told the time.
-    fn due(&mut self) -> Option<Instant> {
-        let due = self.core.next_due().filter(|_| !self.frozen)?;
+    fn due(&self) -> Option<Instant> {
+        let due = self.next_due().filter(|_| !self.frozen)?;
         Some(self.began + Duration::from_millis(due))
     }
 
     fn tell_time(&mut self) {
-        let due = self.core.next_due().is_some_and(|due| due <= self.now());
+        let due = self.next_due().is_some_and(|due| due <= self.now());
         if due && !self.frozen {
             self.moment = self.now();
             self.step(Event::Moment { ms: self.moment });
@@ -417,15 +388,16 @@ impl Driver {
         loop {
             let mut done_with = std::mem::take(&mut self.done_with);
             self.finished.swap(&mut done_with);
-            done_with.drain(..).for_each(|connection| self.over(connection));
+            let over = done_with.drain(..).filter(|it| lock(&self.machine).is_over(*it));
+            self.events.extend(over.map(|connection| Event::Finished { connection }));
             self.done_with = done_with;
             while let Some(event) = self.events.pop_front() {
                 self.give(event);
-                if self.core.end() != End::On {
+                if !self.is_on() {
                     return;
                 }
             }
-            if self.core.end() != End::On {
+            if !self.is_on() {
                 return;
             }
             self.claim();
@@ -462,7 +434,7 @@ impl Driver {
     }
 
     fn step(&mut self, event: Event) {
-        if self.core.end() != End::On {
+        if !self.is_on() {
             // The time before an event may have ended the run; what comes after that matters to nobody.
             return;
         }
@@ -476,42 +448,33 @@ impl Driver {
             }
             _ => None,
         };
-        let told = match own_word {
-            Some(word) => self.core.step_judged(&event, word),
-            None => self.core.step(&event),
-        };
-        match told {
-            Ok(told) => {
-                if let Some(record) = &mut self.record {
-                    record.put(told.record());
-                }
-                let mut actions = std::mem::take(&mut self.actions);
-                actions.extend(told.actions());
-                actions.drain(..).for_each(|action| self.carry_out(action));
-                self.actions = actions;
-            }
-            Err(error) => self.refused(&event, error),
+        let mut actions = std::mem::take(&mut self.actions);
+        let told = lock(&self.machine).step(&event, own_word, &mut actions);
+        actions.drain(..).for_each(|action| self.carry_out(action));
+        self.actions = actions;
+        if let Err(error) = told {
+            self.refused(&event, error);
         }
     }
 
     /// What the first step told.
     fn carry_out_last(&mut self) {
-        let told = match self.core.last() {
-            Ok(told) => told,
-            Err(error) => return self.fail(ServerError::Core(error)),
-        };
-        if let Some(record) = &mut self.record {
-            record.put(told.record());
-        }
-        let actions: Vec<Action> = told.actions().collect();
+        let mut actions = Vec::new();
+        let told = lock(&self.machine).begin(&mut actions);
         actions.into_iter().for_each(|action| self.carry_out(action));
+        if let Err(error) = told {
+            self.fail(ServerError::Core(error));
+        }
     }
 
     /// An event was refused: the run goes on, unless it was to end then or memory lacks.
     fn refused(&mut self, event: &Event, error: CoreError) {
         let is_stray = matches!(error, CoreError::Stray(_) | CoreError::NoEvent(_));
         say!(error, "the core refused an event: {error}");
-        let left: Vec<Action> = self.core.left_by(event).collect();
+        let left: Vec<Action> = match &mut lock(&self.machine).core {
+            Some(core) => core.left_by(event).collect(),
+            None => Vec::new(),
+        };
         left.into_iter().for_each(|action| self.carry_out(action));
         if !is_stray || self.setup.on_stray == OnStray::End {
             self.fail(ServerError::Core(error));
@@ -536,12 +499,15 @@ impl Driver {
                 self.accept_failed(place, &error, answer)
             }
             Input::Shaken { connection, ok } => {
-                let known = self.connections.get(&connection);
+                let machine = lock(&self.machine);
+                let known = machine.connections.get(&connection);
                 if matches!(known, Some(Known::Shaking { .. } | Known::Over)) {
                     self.events.push_back(Event::Shaken { connection, ok });
                 }
             }
             Input::Finished => {}
+            Input::Told(actions) => actions.into_iter().for_each(|action| self.carry_out(action)),
+            Input::Refused(event, error) => self.refused(&event, error),
             Input::Ready(service) => {
                 if !self.progress[service as usize].ended {
                     self.events.push_back(Event::Ready { service });
@@ -560,10 +526,11 @@ impl Driver {
             self.setup.shared.spare.borrow_mut().fill();
             return;
         }
-        let connection = self.connection_numbers.take();
+        let mut machine = lock(&self.machine);
+        let connection = machine.numbers.take();
         let Place { service, endpoint } = place;
         let known = Known::Waiting { stream, peer, service, seat };
-        self.connections.insert(connection, known);
+        machine.connections.insert(connection, known);
         self.events.push_back(Event::Arrived { service, endpoint, connection, peer });
     }
 
@@ -577,19 +544,13 @@ impl Driver {
         tracing::warn!("{}: a connection wasn't accepted: {error}", self.name(place.service));
         let Place { service, endpoint } = place;
         let event = Event::AcceptFailed { service, endpoint, error: number.unwrap_or(0) };
-        // The actions that it tells are few; a rest is among them where the core wants one.
-        let is_told = match self.core.step(&event) {
-            Ok(told) => {
-                if let Some(record) = &mut self.record {
-                    record.put(told.record());
-                }
-                told.actions().any(|action| matches!(action, Action::Rest { .. }))
-            }
-            Err(error) => {
-                self.refused(&event, error);
-                false
-            }
-        };
+        let mut actions = Vec::new();
+        let told = lock(&self.machine).step(&event, None, &mut actions);
+        if let Err(error) = told {
+            self.refused(&event, error);
+        }
+        // They are few; a rest is among them where the core wants one.
+        let is_told = actions.iter().any(|action| matches!(action, Action::Rest { .. }));
         _ = answer.send(is_told.then_some(REST));
     }
 
@@ -606,18 +567,6 @@ impl Driver {
 
     fn name(&self, service: u32) -> &str {
         self.finished.service_name(service)
-    }
-
-    /// A connection's handler is gone.
-    fn over(&mut self, connection: u64) {
-        match self.connections.get_mut(&connection) {
-            Some(Known::Live(_)) => {
-                self.connections.remove(&connection);
-                self.events.push_back(Event::Finished { connection });
-            }
-            Some(known @ Known::Shaking { .. }) => *known = Known::Over,
-            _ => {}
-        }
     }
 
     fn signal(&mut self, kind: Signal) {
@@ -717,7 +666,7 @@ impl Driver {
     /// A drain in which nothing is left is over.
     fn end_early(&mut self) {
         let is_done = self.drains
-            && self.connections.is_empty()
+            && lock(&self.machine).connections.is_empty()
             && self.ending.is_empty()
             && self.progress.iter().zip(self.setup.services.iter()).all(|(progress, service)| {
                 !progress.started || progress.ended || !service.endpoints().is_empty()
@@ -731,7 +680,11 @@ impl Driver {
     /// The run is over: what it has goes, and it is said how it ended.
     fn finish(mut self) -> Result<Drive, ServerError> {
         self.abort_tasks();
-        for (_, known) in self.connections.drain() {
+        let (core, mut record, connections) = {
+            let mut machine = lock(&self.machine);
+            (machine.core.take(), machine.record.take(), mem::take(&mut machine.connections))
+        };
+        for known in connections.into_values() {
             if let Known::Live(task) | Known::Shaking { task, .. } = known {
                 task.abort();
             }
@@ -739,12 +692,11 @@ impl Driver {
         for work in self.progress.iter_mut().filter_map(|progress| progress.work.take()) {
             work.abort();
         }
-        let end = self.core.end();
-        let record = self.record.take();
+        let end = core.as_ref().map_or(End::Served, RunningCore::end);
         let drive = self.outcome(end);
-        if let Some(mut record) = record {
+        if let Some(mut record) = record.take() {
             if end != End::Served
-                && let Ok(mut closed) = self.core.close(None)
+                && let Some(mut closed) = core.and_then(|core| core.close(None).ok())
                 && let Ok(told) = closed.last()
             {
                 record.put(told.record());

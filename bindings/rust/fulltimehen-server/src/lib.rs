@@ -47,6 +47,7 @@ mod inherited;
 mod limits;
 mod listener;
 mod log;
+mod machine;
 mod notify;
 mod opt;
 mod pid_file;

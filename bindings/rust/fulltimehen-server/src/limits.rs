@@ -6,6 +6,7 @@ use std::io;
 use std::os::fd::AsRawFd;
 use std::os::unix::net::UnixDatagram;
 use std::sync::Arc;
+use std::sync::atomic::{AtomicBool, Ordering};
 use tokio::sync::{OwnedSemaphorePermit, Semaphore};
 
 /// Raises the number of descriptors that the process may have open to the most that it may set, and answers
@@ -81,34 +82,45 @@ const SPARES: usize = 4;
 /// Descriptors that are held so that some can be had where none is left: for a handover. They are sockets, which want
 /// no file: a program may see none but its own.
 #[derive(Debug)]
-pub(crate) struct Spare(Vec<UnixDatagram>);
+pub(crate) struct Spare {
+    held: Vec<UnixDatagram>,
+    /// None is missing.
+    is_whole: Arc<AtomicBool>,
+}
 
 impl Spare {
     pub(crate) fn hold() -> Spare {
-        let mut spare = Spare(Vec::new());
+        let mut spare = Spare::none();
         spare.fill();
         spare
     }
 
     /// None at all.
     pub(crate) fn none() -> Spare {
-        Spare(Vec::new())
+        Spare { held: Vec::new(), is_whole: Arc::default() }
+    }
+
+    /// Whether none is missing, as it is at each moment.
+    pub(crate) fn is_whole(&self) -> Arc<AtomicBool> {
+        Arc::clone(&self.is_whole)
     }
 
     /// Takes as many as are missing, and answers whether none is missing now.
     pub(crate) fn fill(&mut self) -> bool {
-        while self.0.len() < SPARES {
-            match UnixDatagram::unbound() {
-                Ok(socket) => self.0.push(socket),
-                Err(_) => return false,
-            }
+        while self.held.len() < SPARES
+            && let Ok(socket) = UnixDatagram::unbound()
+        {
+            self.held.push(socket);
         }
-        true
+        let is_whole = self.held.len() >= SPARES;
+        self.is_whole.store(is_whole, Ordering::SeqCst);
+        is_whole
     }
 
     /// Lets them go for this call, and takes them again.
     pub(crate) fn lend<T>(&mut self, call: impl FnOnce() -> T) -> T {
-        self.0.clear();
+        self.is_whole.store(false, Ordering::SeqCst);
+        self.held.clear();
         let answer = call();
         self.fill();
         answer

@@ -2,7 +2,7 @@
 
 use crate::pid_file::FileId;
 use crate::sys;
-use fulltimehen::Peer;
+use fulltimehen::{Peer, Setting};
 use socket2::{Domain, SockAddr, SockRef, Socket, TcpKeepalive, Type};
 use std::fs::{self, Permissions};
 use std::io;
@@ -282,7 +282,49 @@ impl AsRawFd for Listener {
     }
 }
 
+/// Applies a setting to an accepted connection.
+fn apply(setting: &Setting, stream: &Accepted, peer: Peer) -> io::Result<()> {
+    let socket = stream.socket();
+    let size = |bytes: u64| usize::try_from(bytes).unwrap_or(usize::MAX);
+    match *setting {
+        // Nothing waits in a socket of the Unix domain.
+        Setting::NoDelay if peer == Peer::Unix || stream.has_no_delay() => Ok(()),
+        Setting::NoDelay => socket.set_nodelay(true),
+        Setting::KeepAlive { idle, interval, count, user_timeout } => {
+            let count = u32::try_from(count).map_err(|_| io::ErrorKind::InvalidInput)?;
+            let times = TcpKeepalive::new()
+                .with_time(Duration::from_nanos(idle))
+                .with_interval(Duration::from_nanos(interval))
+                .with_retries(count);
+            socket.set_tcp_keepalive(&times)?;
+            socket.set_tcp_user_timeout(Some(Duration::from_nanos(user_timeout)))
+        }
+        Setting::Dscp(byte) => {
+            if socket.domain()? == Domain::IPV6 {
+                sys::set_traffic_class(&*socket, byte)?;
+            }
+            // A peer of IPv4 may come to a socket of IPv6.
+            match peer {
+                Peer::Inet(peer) if peer.ip().to_canonical().is_ipv6() => Ok(()),
+                _ => socket.set_tos(byte.into()),
+            }
+        }
+        Setting::SndBuf(bytes) => socket.set_send_buffer_size(size(bytes)),
+        Setting::RcvBuf(bytes) => socket.set_recv_buffer_size(size(bytes)),
+        _ => Err(io::ErrorKind::Unsupported.into()),
+    }
+}
+
 impl Accepted {
+    /// Applies the settings, and answers whether that went well.
+    pub(crate) fn set(&self, settings: &[Setting], peer: Peer) -> bool {
+        let set = settings.iter().try_for_each(|setting| apply(setting, self, peer));
+        if let Err(error) = &set {
+            tracing::debug!("the settings of a connection of {peer}: {error}");
+        }
+        set.is_ok()
+    }
+
     /// Whether it sends without delay already.
     pub(crate) fn has_no_delay(&self) -> bool {
         matches!(self, Accepted::Tcp(_, NoDelay::Yes))

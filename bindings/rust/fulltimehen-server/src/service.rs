@@ -1,6 +1,6 @@
 //! Services: what a server runs.
 
-use crate::connection::{Connection, Shutdown};
+use crate::connection::{Connection, Served, Shutdown};
 use crate::filter::Cidr;
 use crate::listener::Address;
 use crate::log::say;
@@ -11,6 +11,8 @@ use std::io;
 use std::path::PathBuf;
 use std::pin::Pin;
 use std::sync::Arc;
+use tokio::runtime::Handle;
+use tokio::task::JoinHandle;
 
 pub(crate) type Work = Pin<Box<dyn Future<Output = ()> + Send>>;
 type ReadyCall = Arc<dyn Fn() + Send + Sync>;
@@ -115,11 +117,14 @@ impl Task {
     }
 }
 
+/// Begins a handler that gets the connection at once.
+pub(crate) type Plain = Arc<dyn Fn(Served, &Handle) -> JoinHandle<()> + Send + Sync>;
+
 /// What a listening service does with a connection.
 #[derive(Clone)]
 pub(crate) enum Handler {
     /// The handler gets the connection at once.
-    Plain(Arc<dyn Fn(Connection) -> Work + Send + Sync>),
+    Plain(Plain),
     /// A handshake comes first, which answers the handler's work.
     Shaking(Arc<dyn Fn(Connection) -> Handshake + Send + Sync>),
 }
@@ -309,15 +314,19 @@ where
     R: Future<Output: Answer> + Send + 'static,
 {
     let service = Arc::new((name.to_owned(), handler));
-    let handle = move |connection| -> Work {
+    let begin = move |served: Served, handlers: &Handle| {
         let service = Arc::clone(&service);
-        // The handler's future is made where it stays: it may be large.
-        Box::pin(async move {
+        handlers.spawn(async move {
             let (name, handler) = &*service;
-            handler(connection).await.look(name);
+            let guard = Arc::clone(&served.guard);
+            match Connection::new(served) {
+                Ok(connection) => handler(connection).await.look(name),
+                Err(error) => tracing::warn!("{name}: a connection isn't served: {error}"),
+            }
+            drop(guard);
         })
     };
-    Listening::new(name, Handler::Plain(Arc::new(handle)))
+    Listening::new(name, Handler::Plain(Arc::new(begin)))
 }
 
 /// A service that listens and shakes hands first: what `handshake` makes of a connection, as a stream of

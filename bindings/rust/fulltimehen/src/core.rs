@@ -13,8 +13,8 @@ use std::net::SocketAddr;
 use std::slice;
 use std::str;
 
-/// The lifecycle of one server, before its run. It stays on the thread that made it, as do the states
-/// that follow: [`Core::begin`] gives the running core, and [`RunningCore::close`] the closed one.
+/// The lifecycle of one server, before its run: [`Core::begin`] gives the running core, and [`RunningCore::close`] the
+/// closed one. In each of these states it may go to another thread, and one at a time uses it.
 pub struct Core {
     session: Session,
     judges: bool,
@@ -140,8 +140,8 @@ impl fmt::Display for CoreError {
 
 impl std::error::Error for CoreError {}
 
-/// A call that takes a core by value was refused, and the core comes back as it was. Since a core stays on
-/// its thread, so does this; `map_err(CoreError::from)` makes it an error that may leave.
+/// A call that takes a core by value was refused, and the core comes back as it was. Since threads don't use a
+/// core at once, neither do they this; `map_err(CoreError::from)` makes it an error that all may.
 ///
 /// ```
 /// use fulltimehen::{Core, CoreError, Plan};

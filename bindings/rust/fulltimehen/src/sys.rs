@@ -66,11 +66,15 @@ declare! {
     fn svc_c_drop(handle: *mut Handle);
 }
 
-/// A session of the library. Its handle has one: the only `requires` of the library's calls. It is
-/// neither `Send` nor `Sync`, as a pointer isn't: nothing shows that a session may change threads.
+/// A session of the library. Its handle has one: the only `requires` of the library's calls.
 pub(crate) struct Session {
     handle: Handle,
 }
+
+// SAFETY: a session is memory to which its handle alone leads, and the library has no variables, so that it can't tell one thread
+// from another (`tests/bindings` looks whether it has none). Its allocator is the program's, of which each thread may ask. Two
+// threads never use it at once: it isn't `Sync`.
+unsafe impl Send for Session {}
 
 /// Why no session was made: the answer's number, and the refused line or the name of the refused key.
 pub(crate) struct Refused {

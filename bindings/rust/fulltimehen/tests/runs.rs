@@ -1,7 +1,7 @@
 //! How runs go on and end.
 
 use fulltimehen::{
-    Action, Core, CoreError, Event, Host, Next, OnStray, Outcome, Plan, PlanError, RunError,
+    Action, Core, CoreError, End, Event, Host, Next, OnStray, Outcome, Plan, PlanError, RunError,
     Service, Signal, Stray,
 };
 use std::collections::VecDeque;
@@ -11,7 +11,7 @@ use std::io;
 use std::os::fd::OwnedFd;
 use std::os::unix::net::UnixStream;
 use std::process::{Command, Stdio};
-use std::thread::sleep;
+use std::thread::{self, sleep};
 use std::time::{Duration, Instant};
 
 /// A host whose events are given beforehand.
@@ -250,6 +250,30 @@ fn errors_have_causes() {
     assert_eq!(fault.source().expect("a cause").to_string(), "why");
     let refused = RunError::Core(CoreError::NoMemory);
     assert_eq!(refused.source().expect("a cause").to_string(), "out of memory");
+}
+
+/// A core may go from thread to thread.
+#[test]
+fn each_step_may_have_its_own_thread() {
+    let mut core = core().begin().expect("memory");
+    let mut record = core.last().expect("memory").record().to_owned();
+    for line in ["bound 0 0 3", "arrived 0 0 5 -", "set 5 ok", "signal fast"] {
+        let event: Event = line.parse().expect("an event");
+        let step = move || {
+            let told = core.step(&event).expect("it fits").record().to_owned();
+            (core, told)
+        };
+        let (there, told) = thread::spawn(step).join().expect("it ends");
+        core = there;
+        record += &told;
+    }
+    let closed = thread::spawn(move || core.close(None).expect("memory")).join().expect("it ends");
+    assert_eq!(closed.end(), End::Served);
+    assert_eq!(
+        record,
+        "start 0\nbind 0 0\nphase Running 0\ngot bound 0 0 3\ngot arrived 0 0 5 -\nsettings 5 nodelay\ngot set 5 ok\nhandshake 5\n\
+         got signal fast\nphase ShutdownStarted 0\nphase ShutdownRuntimes 0\ncut 5\nclose 3\nstop 0\nphase Terminated 0\n"
+    );
 }
 
 /// A core that isn't made can be unwrapped as an error, and cores can be shown.

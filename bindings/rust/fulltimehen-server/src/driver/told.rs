@@ -1,17 +1,16 @@
 //! What the core tells is carried out.
 
-use super::{Driver, Input, Known, Socket, Wanted};
+use super::{Driver, Input, Socket, Wanted};
 use crate::accept::{self, Arrival, Loop, Place, Polled};
-use crate::connection::{Common, Connection, Guard};
+use crate::connection::{Common, Connection, Guard, Served};
 use crate::limits::Seat;
-use crate::listener::{Accepted, Address, Listener};
+use crate::listener::{Address, Listener};
 use crate::log::say;
+use crate::machine::{Direct, Known, lock};
 use crate::pid_file::FileId;
 use crate::service::{Handler, Kind, Task};
 use crate::succession::Held;
-use crate::sys;
-use fulltimehen::{Action, Event, Peer, Phase, Setting};
-use socket2::{Domain, TcpKeepalive};
+use fulltimehen::{Action, Event, Phase, Setting};
 use std::collections::HashSet;
 use std::fs;
 use std::io;
@@ -60,39 +59,6 @@ impl Answered {
 impl Drop for Answered {
     fn drop(&mut self) {
         self.give(false);
-    }
-}
-
-/// Applies a setting to an accepted connection.
-fn apply(setting: &Setting, stream: &Accepted, peer: Peer) -> io::Result<()> {
-    let socket = stream.socket();
-    let size = |bytes: u64| usize::try_from(bytes).unwrap_or(usize::MAX);
-    match *setting {
-        // Nothing waits in a socket of the Unix domain.
-        Setting::NoDelay if peer == Peer::Unix || stream.has_no_delay() => Ok(()),
-        Setting::NoDelay => socket.set_nodelay(true),
-        Setting::KeepAlive { idle, interval, count, user_timeout } => {
-            let count = u32::try_from(count).map_err(|_| io::ErrorKind::InvalidInput)?;
-            let times = TcpKeepalive::new()
-                .with_time(Duration::from_nanos(idle))
-                .with_interval(Duration::from_nanos(interval))
-                .with_retries(count);
-            socket.set_tcp_keepalive(&times)?;
-            socket.set_tcp_user_timeout(Some(Duration::from_nanos(user_timeout)))
-        }
-        Setting::Dscp(byte) => {
-            if socket.domain()? == Domain::IPV6 {
-                sys::set_traffic_class(&*socket, byte)?;
-            }
-            // A peer of IPv4 may come to a socket of IPv6.
-            match peer {
-                Peer::Inet(peer) if peer.ip().to_canonical().is_ipv6() => Ok(()),
-                _ => socket.set_tos(byte.into()),
-            }
-        }
-        Setting::SndBuf(bytes) => socket.set_send_buffer_size(size(bytes)),
-        Setting::RcvBuf(bytes) => socket.set_recv_buffer_size(size(bytes)),
-        _ => Err(io::ErrorKind::Unsupported.into()),
     }
 }
 
@@ -260,12 +226,14 @@ impl Driver {
         if progress.held.len() < self.setup.services[service as usize].endpoints().len() {
             return;
         }
+        let direct = self.direct(service);
         let room = self.room.of(self.setup.services[service as usize].descriptors());
         for (place, (fd, loops)) in self.loops.iter_mut().filter(|(it, _)| it.service == service) {
             if let (true, Some(socket)) = (loops.is_empty(), self.sockets.get(fd)) {
                 let begin = |number| {
                     let (inputs, room) = (self.inputs.clone(), room.clone());
-                    let accepting = Loop { place: *place, number, inputs, room };
+                    let accepting =
+                        Loop { place: *place, number, inputs, room, direct: direct.clone() };
                     accepting.begin(Arc::clone(&socket.listener), &self.setup.handlers)
                 };
                 *loops = (0..self.setup.tasks).map(begin).collect();
@@ -356,14 +324,10 @@ impl Driver {
     }
 
     fn set(&self, connection: u64, settings: &[Setting]) -> bool {
-        let Some(Known::Waiting { stream, peer, .. }) = self.connections.get(&connection) else {
-            return false;
-        };
-        let set = settings.iter().try_for_each(|setting| apply(setting, stream, *peer));
-        if let Err(error) = &set {
-            tracing::debug!("the settings of connection {connection}: {error}");
+        match lock(&self.machine).connections.get(&connection) {
+            Some(Known::Waiting { stream, peer, .. }) => stream.set(settings, *peer),
+            _ => false,
         }
-        set.is_ok()
     }
 
     fn guard(&self, connection: u64, service: u32, seat: Seat) -> Arc<Guard> {
@@ -373,12 +337,33 @@ impl Driver {
 
     /// What the service of a connection does with one.
     fn handler(&self, connection: u64) -> Option<(u32, &Handler)> {
-        let Some(Known::Waiting { service, .. }) = self.connections.get(&connection) else {
-            return None;
+        let service = match lock(&self.machine).connections.get(&connection) {
+            Some(Known::Waiting { service, .. }) => *service,
+            _ => return None,
         };
-        match &self.setup.services[*service as usize].kind {
-            Kind::Listening { handler, .. } => Some((*service, handler)),
+        match &self.setup.services[service as usize].kind {
+            Kind::Listening { handler, .. } => Some((service, handler)),
             Kind::Background { .. } => None,
+        }
+    }
+
+    /// What the loops of a service serve its connections by, where nothing comes before that.
+    fn direct(&self, service: u32) -> Option<Direct> {
+        match &self.setup.services[service as usize].kind {
+            Kind::Listening { handler: Handler::Plain(handle), filters, .. }
+                if filters.is_empty() =>
+            {
+                Some(Direct {
+                    machine: Arc::clone(&self.machine),
+                    handle: Arc::clone(handle),
+                    handlers: self.setup.handlers.clone(),
+                    finished: Arc::clone(&self.finished),
+                    inputs: self.inputs.clone(),
+                    beat: self.beat.clone(),
+                    has_spares: self.setup.shared.spare.borrow().is_whole(),
+                })
+            }
+            _ => None,
         }
     }
 
@@ -387,7 +372,7 @@ impl Driver {
             return self.events.push_back(Event::Shaken { connection, ok: true });
         };
         let shake = Arc::clone(shake);
-        let waiting = self.connections.remove(&connection);
+        let waiting = lock(&self.machine).connections.remove(&connection);
         let Some(Known::Waiting { stream, peer, seat, .. }) = waiting else {
             return;
         };
@@ -395,7 +380,8 @@ impl Driver {
         let (go, goes) = oneshot::channel();
         let mut answer = Answered { connection, inputs: Some(self.inputs.clone()) };
         let task = self.setup.handlers.spawn(async move {
-            let Ok(made) = Connection::new(stream, peer, Arc::clone(&guard)) else {
+            let served = Served { stream, peer, guard: Arc::clone(&guard) };
+            let Ok(made) = Connection::new(served) else {
                 return;
             };
             match timeout(HANDSHAKE, shake(made)).await {
@@ -411,26 +397,20 @@ impl Driver {
             drop(guard);
         });
         let known = Known::Shaking { task, go };
-        self.connections.insert(connection, known);
+        lock(&self.machine).connections.insert(connection, known);
     }
 
     fn serve(&mut self, connection: u64) {
         let handler = self.handler(connection).map(|(service, handler)| (service, handler.clone()));
-        let known = match (self.connections.remove(&connection), handler) {
+        let known = lock(&self.machine).connections.remove(&connection);
+        let known = match (known, handler) {
             (
                 Some(Known::Waiting { stream, peer, seat, .. }),
                 Some((service, Handler::Plain(handle))),
             ) => {
                 let guard = self.guard(connection, service, seat);
                 self.beat.go_on(&self.setup.handlers);
-                let task = self.setup.handlers.spawn(async move {
-                    match Connection::new(stream, peer, Arc::clone(&guard)) {
-                        Ok(connection) => handle(connection).await,
-                        Err(error) => tracing::warn!("a connection isn't served: {error}"),
-                    }
-                    drop(guard);
-                });
-                Known::Live(task)
+                Known::Live(handle(Served { stream, peer, guard }, &self.setup.handlers))
             }
             // Where its task is gone, it says so itself.
             (Some(Known::Shaking { task, go }), _) => {
@@ -439,13 +419,12 @@ impl Driver {
             }
             _ => return self.events.push_back(Event::Finished { connection }),
         };
-        self.connections.insert(connection, known);
+        lock(&self.machine).connections.insert(connection, known);
     }
 
-    fn drop_connection(&mut self, connection: u64) {
-        if let Some(Known::Live(task) | Known::Shaking { task, .. }) =
-            self.connections.remove(&connection)
-        {
+    fn drop_connection(&self, connection: u64) {
+        let known = lock(&self.machine).connections.remove(&connection);
+        if let Some(Known::Live(task) | Known::Shaking { task, .. }) = known {
             task.abort();
         }
     }
