@@ -245,5 +245,5 @@ pub gains-bound : (b : Bool) (d : EndpointsData) (s i fd : ℕ) (text : List ℕ
     → GainsOnly (Some text) d (bound_or_again b d s i fd text)
 gains-bound true d s i fd text is a other none = none
 gains-bound false d s i fd text is a other none =
-    ap not_empty (numbers_with-put (record { fd = fd; address = Some text }) d.table (none_there (numbers_with d.table (Some text)) (sym is)) a ∙ (rw other refl))
-    ∙ none
+    let before : numbers_with d.table (Some text) ≡ [] = none_there (numbers_with d.table (Some text)) (sym is) in
+    ap not_empty (numbers_with-put (record { fd = fd; address = Some text }) d.table before a ∙ (rw other refl)) ∙ none

@@ -1,5 +1,5 @@
 -- The sums of addresses that several endpoints have are found, and tell that another one has none of them.
-use Rattle.std.proofs.Common.{ℕ, Bool, true, false, ◌&&◌, ◌==◌, inl, inr, ◌⊎◌, List, ◌≡◌, ◌≢◌, refl, ap, sym, ◌∙◌, subst, arith, ◌+◌, ◌<◌, length, Some}
+use Rattle.std.proofs.Common.{ℕ, Bool, true, false, ◌&&◌, ◌==◌, inl, inr, ◌⊎◌, List, ◌≡◌, refl, ap, sym, ◌∙◌, subst, arith, ◌+◌, ◌<◌, length, Some}
 use Rattle.std.proofs.lemmas.Bool.{cases_Bool, cases_lt, eq-eqb, or_left, or_right}
 use Rattle.svc_base.specs.NumberSets.{is_in, put_number}
 use Rattle.svc_base.proofs.Logic.{clash}
