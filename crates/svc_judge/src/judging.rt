@@ -461,10 +461,11 @@ fn breach_of(alloc: Global, past: &Past) -> Result<Option<Breach>, NoMemory>
 /// plan.
 ///
 /// An entry on a connection costs what stands in the record on those connections whose numbers leave the same
-/// remainder, divided by a quarter of the record's length, and a moment where no bind, no try and no offer rests costs
-/// what stands since the one before it. Any other entry costs the record's length up to there, times what is opened,
-/// and the services' endpoints, so a record of such entries alone the square of its length. `NoMemory` where there
-/// is no memory for what is looked up often.
+/// remainder, divided by a quarter of the record's length, and a moment where no bind, no try and no offer rests what
+/// stands since the one before it; what has to be known besides is looked for in the whole once for all such entries
+/// that stand side by side. Any other entry costs the record's length up to there, times what is opened, and the
+/// services' endpoints, so a record of such entries alone the square of its length. `NoMemory` where there is no
+/// memory for what is looked up often.
 #[tactic(auto, using(crate::proofs::ServedLemmas::served_by_waits))]
 pub fn judge(alloc: Global, plan: &Plan, entries: &[Entry]) -> Result<Verdict, NoMemory>
     ensures served { IfOk result (λ v. v.served ≡ is_served plan.now entries.now) }
