@@ -10,3 +10,4 @@ mod ShutLemmas
 pub mod OwedLemmas
 pub mod EndLemmas
 mod AfterLemmas
+mod NextDueLemmas

@@ -1,5 +1,5 @@
 -- What a timetable knows of each job.
-use Rattle.std.specs.Prelude.{ℕ, Bool, true, false, ◌≡◌, ◌==◌, ◌<◌, not, ◌&&◌, ◌||◌, List, [], ◌∷◌, ◌++◌, map, Option, Some, None, slice_get, filter, if◌then◌else◌}
+use Rattle.std.specs.Prelude.{ℕ, Bool, true, false, ◌≡◌, ◌==◌, ◌<◌, ◌^◌, not, ◌&&◌, ◌||◌, List, [], ◌∷◌, ◌++◌, map, Option, Some, None, slice_get, filter, if◌then◌else◌}
 use Rattle.std.specs.Option.{option_map}
 use Rattle.std.specs.List.{flat_map, range_with_len}
 use Rattle.svc_record.specs.declared.entry.Entry.TheVariants.{Got}
@@ -28,6 +28,15 @@ row_of periods q s = record { every = period periods s; started = start_moment q
 -- how many due moments the job has since the last moment
 abbrev pub row_due : JobRow → ℕ → ℕ → ℕ
 row_due row last m = due_since row.every row.started last m
+
+-- the job is due at m for the first time since the last moment
+pub record IsNextDue (row : JobRow) (last m : ℕ) : Type 0 where
+  pub due : 0 < row_due row last m
+  pub first : (n : ℕ) → n < m → row_due row last n ≡ 0
+
+-- the job is due at no moment of 64 bits since the last moment
+abbrev pub IsNeverDue : JobRow → ℕ → Type 0
+IsNeverDue row last = (n : ℕ) → n < 2 ^ 64 → row_due row last n ≡ 0
 
 -- the row of a job that ran for so many due moments
 abbrev pub ran_row : JobRow → ℕ → JobRow

@@ -108,12 +108,7 @@ fn new_rows(alloc: Global, plans: &[JobPlan]) -> Result<Vec<JobRow>, NoMemory>
 {
     let mut rows = Vec::new(alloc);
     for plan in plans {
-        rows.push(JobRow {
-            every: plan.every,
-            started: None,
-            ran: false,
-            owes: false,
-        })?;
+        rows.push(JobRow::new(plan.every))?;
     }
     Ok(rows)
 }

@@ -162,8 +162,8 @@ impl Endpoints {
             }
             Work::Ready(ms) => service.ready_after = *ms,
             Work::Echo => service.target = None,
-            // Which connections are taken is for the server's filters.
-            Work::Gate(_) => {}
+            // Which connections are taken is for the server's filters, and jobs run by its record.
+            Work::Gate(_) | Work::Jobs(_) => {}
         }
         Ok(())
     }
