@@ -1,5 +1,7 @@
 -- What each answer leaves, with what is told after it.
-use Rattle.std.proofs.Common.{ℕ, Bool, true, false, ◌||◌, ◌&&◌, ◌==◌, List, [], ◌∷◌, ◌++◌, ◌≡◌, refl, ap, sym, ◌∙◌, subst, arith, ◌<◌, ◌≤◌, ◌+◌, length, length-append, map, slice_index_or}
+use Rattle.std.proofs.Common.{ℕ, Bool, true, false, ◌||◌, ◌&&◌, ◌==◌, List, [], ◌∷◌, ◌++◌, ◌≡◌, refl, ap, sym, ◌∙◌, subst, arith, ◌<◌, ◌≤◌, ◌+◌, length, length-append, map, slice_index_or, Option, None}
+use Rattle.std.specs.Option.{option_to_list}
+use Rattle.std.proofs.lemmas.List.{append-nil, length-map}
 use Rattle.std.proofs.lemmas.Bool.{or_left, or_right, eq-eqb}
 use Rattle.svc_record.specs.declared.plan.Plan.{Plan}
 use Rattle.svc_record.specs.declared.entry.Entry.TheVariants.{Got, Told}
@@ -11,7 +13,8 @@ use Rattle.svc_record.specs.Record.{Record, has, now, tell}
 use Rattle.svc_record.specs.Plans.{service_count, endpoints}
 use Rattle.svc_record.specs.Descriptors.{descriptors_of, numbers_of, is_close, is_opened}
 use Rattle.svc_record.specs.Closes.{is_gone, is_drained}
-use Rattle.svc_base.specs.NumberSets.{ascending, distinct}
+use Rattle.svc_base.specs.Items.{list_of, spare}
+use Rattle.svc_base.specs.NumberSets.{ascending, distinct, is_in}
 use Rattle.svc_record.specs.Failed.{has_failed}
 use Rattle.svc_record.specs.Offer.{is_held_back}
 use Rattle.svc_record.specs.Tail.{numbers_in}
@@ -20,8 +23,9 @@ use Rattle.svc_endpoints.specs.declared.states.EndpointStatus.{EndpointStatus}
 use Rattle.svc_endpoints.specs.declared.states.EndpointStatus.TheVariants.{Idle, Binding, AddressInUse, Adopting, Holding, AdoptionFailed}
 use Rattle.svc_endpoints.specs.declared.states.EndpointState.{EndpointState}
 use Rattle.svc_endpoints.specs.EndpointsData.{EndpointsData}
-use Rattle.svc_endpoints.specs.EndpointsState.{IsEndpointsSized, AreOnOffer, LoopsStand, StatesKept, StatesStand, EndpointsStand, last_at, failed_at, times_in_use_at, is_asking, is_done, is_binding, is_adopting, numbers_of_table}
+use Rattle.svc_endpoints.specs.EndpointsState.{IsEndpointsSized, AreOnOffer, LoopsStand, StatesKept, StatesStand, EndpointsStand, last_at, failed_at, times_in_use_at, is_asking, is_done, is_binding, is_adopting, fd_of, numbers_of_table}
 use Rattle.svc_endpoints.specs.Effects.{fail_if, put, is_last_refusal, refused, bind_failed, adopt_failed, adopted, held_now, cleared, cleared_if, given_up, given_up_if, gone_numbers, goes}
+use Rattle.svc_endpoints.specs.Failing.{ClosesOwn, ClosesOwnIf, HasOwnLive, goes_among, left_among, gone_among}
 use Rattle.svc_endpoints.specs.Uses.{uses, is_drained_by}
 use Rattle.svc_endpoints.proofs.FailedLemmas.{failed-bind_failed, failed-adopt_failed, failed-in_use}
 use Rattle.svc_endpoints.proofs.StatesLemmas.{stands-bind_failed, stands-adopt_failed, stands-adopted, stands-refused, last_refusal-is, table-fail, failed_at-fail}
@@ -36,15 +40,12 @@ use Rattle.svc_endpoints.proofs.FailLemmas.{fails-up}
 use Rattle.svc_endpoints.proofs.EventLemmas.{opened_is-event, numbers-event, place-event, turned-event, stand-event}
 use Rattle.svc_endpoints.proofs.ClearLemmas.{Answered, stands-cleared}
 use Rattle.svc_endpoints.proofs.RestLemmas.{picked-length}
+use Rattle.svc_endpoints.proofs.OwnLemmas.{own-left, own-gone}
 
 -- what only gives up and closes
 pub giving-closes : (ns : List ℕ) → IsGivingUp (map Close ns)
 giving-closes [] = tt
 giving-closes (n ∷ ns) = giving-closes ns
-
-pub giving-up_if : (b : Bool) (p : Plan) (s : ℕ) (keep : List ℕ) (d : EndpointsData) → IsGivingUp (given_up_if b p s keep d)
-giving-up_if true p s keep d = giving-closes (gone_numbers p keep d d.table)
-giving-up_if false p s keep d = tt
 
 -- how much is told
 pub cleared-few : (p : Plan) (keep : List ℕ) (d : EndpointsData)
@@ -54,11 +55,6 @@ cleared-few p keep d = let h = picked-length (goes p keep d) d.table in let g = 
     length_closes : (ns : List ℕ) → length (map Close ns) ≡ length ns
     length_closes [] = refl
     length_closes (n ∷ ns) = let h = length_closes ns in omega (arith, h)
-
-pub given_up-few : (b : Bool) (p : Plan) (s : ℕ) (keep : List ℕ) (d : EndpointsData)
-    → length (given_up_if b p s keep d) + length (cleared_if b p keep d).table ≤ length d.table + 1
-given_up-few true p s keep d = let h = cleared-few p keep d in omega (arith, h)
-given_up-few false p s keep d = omega arith
 
 -- an answer by which the service fails
 module _ (p : Plan) (d d2 : EndpointsData) (q : Record) (e : Event) (s i : ℕ) (going : is_any_loop_end e ≡ false) (opens : descriptors_of p (Got e) ≡ [])
@@ -238,51 +234,128 @@ after-adopted p d q s i sized inside within stand a = stand-event p d (adopted d
         ∙ adopted_uses fd (failed_at d s) (is_done p d s i) (last_at d s i) (asks_free_adopting p d s i sized inside within stand.kept a)
         (changed-not_done p d (adopted d s i) s i only q stand.loops fd i))
 
--- what an answer told, and what it left
-module _ (p : Plan) (d mid made new : EndpointsData) (e : Event) (b : Bool) (s : ℕ) (keep : List ℕ) (before after : List Action)
-    (is : made ≡ mid) (left : new ≡ cleared_if b p keep made) (appended : after ≡ before ++ given_up_if b p s keep made) where
-  told_is : after ≡ before ++ given_up_if b p s keep mid
-  told_is = appended ∙ ap (λ (m : EndpointsData). before ++ given_up_if b p s keep m) is
+-- an answer by which a service fails, and what closes by it
+module _ (p : Plan) (d mid made new : EndpointsData) (e : Event) (s i : ℕ) (offered : Option ℕ) (keep : List ℕ) (before after : List Action × ℕ)
+    (is : made ≡ mid) (gives : ClosesOwn (Fail s ∷ []) p keep s offered made new before after) where
+  abbrev told_now : List Action
+  told_now = Fail s ∷ map Close (gone_among p keep gives.own mid)
 
-  new_is : new ≡ cleared_if b p keep mid
-  new_is = left ∙ ap (cleared_if b p keep) is
+  told_is : list_of after ≡ list_of before ++ told_now
+  told_is = gives.told ∙ ap (λ (m : EndpointsData). list_of before ++ (Fail s ∷ map Close (gone_among p keep gives.own m))) is
 
-  pub tells-answer : ((q : Record) → AreOnOffer p keep q → EndpointsStand p d q
-      → EndpointsStand p (cleared_if b p keep mid) (tell (Got e ∷ q) (given_up_if b p s keep mid)))
-      → Tells before after
-      (λ told. IsGivingUp told × ((q : Record) → AreOnOffer p keep q → EndpointsStand p d q → EndpointsStand p new (tell (Got e ∷ q) told)))
-  tells-answer h = record {
-    told = given_up_if b p s keep mid;
-    appended = told_is;
-    kept = (
-      giving-up_if b p s keep mid,
-      λ q offer stand. subst (λ (m : EndpointsData). EndpointsStand p m (tell (Got e ∷ q) (given_up_if b p s keep mid)))
-          (sym new_is) (h q offer stand),
-    );
-  }
+  new_is : new ≡ left_among p keep gives.own mid
+  new_is = gives.left ∙ ap (left_among p keep gives.own) is
 
-  pub tells-answer_at : (moment : ℕ)
-      → ((q : Record) → moment ≡ now q → AreOnOffer p keep q → EndpointsStand p d q
-      → EndpointsStand p (cleared_if b p keep mid) (tell (Got e ∷ q) (given_up_if b p s keep mid)))
-      → Tells before after
-      (λ told. IsGivingUp told × ((q : Record) → moment ≡ now q → AreOnOffer p keep q → EndpointsStand p d q → EndpointsStand p new (tell (Got e ∷ q) told)))
-  tells-answer_at moment h = record {
-    told = given_up_if b p s keep mid;
-    appended = told_is;
-    kept = (
-      giving-up_if b p s keep mid,
-      λ q at offer stand. subst (λ (m : EndpointsData). EndpointsStand p m (tell (Got e ∷ q) (given_up_if b p s keep mid)))
-          (sym new_is) (h q at offer stand),
-    );
-  }
+  has_own : HasOwnLive p mid s offered gives.own
+  has_own = subst (λ (m : EndpointsData). HasOwnLive p m s offered gives.own) is gives.has
 
-  pub few-answer : mid.table ≡ d.table → length after + length new.table ≤ length before + length d.table + 2
-  few-answer same =
-      let few = given_up-few b p s keep mid in
-      let told = ap length told_is ∙ length-append before (given_up_if b p s keep mid) in
+  pub few-failed : mid.table ≡ d.table → length (list_of after) + length new.table ≤ length (list_of before) + length d.table + 2
+  few-failed same =
+      let few = picked-length (goes_among p keep mid gives.own) mid.table in
+      let told = ap length told_is ∙ length-append (list_of before) told_now in
+      let closes = length-map (gone_among p keep gives.own mid) Close in
       let rest = ap (λ (m : EndpointsData). length m.table) new_is in
       let old = ap length same in
-      omega (arith, few, told, rest, old)
+      omega (arith, few, told, closes, rest, old)
+
+  pub room-failed : mid.table ≡ d.table → spare before + length new.table ≤ spare after + length d.table + 2
+  room-failed same =
+      let room = gives.room in
+      let old : length made.table ≡ length d.table = ap (λ (m : EndpointsData). length m.table) is ∙ ap length same in
+      omega (arith, room, old)
+
+  module _ (changed : Changed p d mid s i) (bad : failed_at mid s ≡ true) (table : mid.table ≡ d.table)
+      (offers : (x : ℕ) → is_in x (fd_of (last_at d s i)) ≡ true → is_in x (option_to_list offered) ≡ true) where
+    failed_now : (q : Record) → AreOnOffer p keep q → EndpointsStand p d q
+        → EndpointsStand p (cleared p keep mid) (tell (Got e ∷ q) (given_up p s keep mid)) → EndpointsStand p new (tell (Got e ∷ q) told_now)
+    failed_now q offer stand h =
+        subst (λ (m : EndpointsData). EndpointsStand p m (tell (Got e ∷ q) told_now))
+        (own-left p d mid s i offered keep gives.own changed bad table offers has_own q offer stand ∙ sym new_is)
+        (subst (λ (ns : List ℕ). EndpointsStand p (cleared p keep mid) (tell (Got e ∷ q) (Fail s ∷ map Close ns)))
+        (own-gone p d mid s i offered keep gives.own changed bad table offers has_own q offer stand) h)
+
+    pub tells-failed : ((q : Record) → AreOnOffer p keep q → EndpointsStand p d q
+        → EndpointsStand p (cleared p keep mid) (tell (Got e ∷ q) (given_up p s keep mid)))
+        → Tells (list_of before) (list_of after)
+        (λ told. IsGivingUp told × ((q : Record) → AreOnOffer p keep q → EndpointsStand p d q → EndpointsStand p new (tell (Got e ∷ q) told)))
+    tells-failed h = record {
+      told = told_now;
+      appended = told_is;
+      kept = (giving-closes (gone_among p keep gives.own mid), λ q offer stand. failed_now q offer stand (h q offer stand));
+    }
+
+    pub tells-failed_at : (moment : ℕ) → ((q : Record) → moment ≡ now q → AreOnOffer p keep q → EndpointsStand p d q
+        → EndpointsStand p (cleared p keep mid) (tell (Got e ∷ q) (given_up p s keep mid)))
+        → Tells (list_of before) (list_of after)
+        (λ told. IsGivingUp told × ((q : Record) → moment ≡ now q → AreOnOffer p keep q → EndpointsStand p d q → EndpointsStand p new (tell (Got e ∷ q) told)))
+    tells-failed_at moment h = record {
+      told = told_now;
+      appended = told_is;
+      kept = (giving-closes (gone_among p keep gives.own mid), λ q at offer stand. failed_now q offer stand (h q at offer stand));
+    }
+
+-- an open ask changed, after which the service has failed
+module _ (p : Plan) (d : EndpointsData) (s i : ℕ) (sized : IsEndpointsSized p d) (inside : s < service_count p) (within : i < length (endpoints p s)) where
+  pub changed-ask : (b : Bool) (x : EndpointState) → is_asking (last_at d s i) ≡ true → Changed p d (fail_if b s (put d s i x)) s i
+  changed-ask b x asks = changed-put p d s i b x (omega (arith, sized.services)) (omega (arith, sized.each s inside)) (omega (arith, sized.failed)) within
+      (asking_not_holding (last_at d s i) asks)
+
+  pub failed-ask : (b : Bool) (x : EndpointState) → b ≡ true → failed_at (fail_if b s (put d s i x)) s ≡ true
+  failed-ask b x e = failed_at-fail p (put d s i x) s b (omega (arith, sized.failed)) s ∙ (rw (e, eq-eqb s s refl) (or_true (failed_at d s)))
+    where
+      or_true : (c : Bool) → (c || true) ≡ true
+      or_true c = grind arith
+
+-- a bind has and is offered nothing
+pub binding-none : (x : EndpointStatus) (n : ℕ) (xs : List ℕ) → is_binding x ≡ true → is_in n (fd_of x) ≡ true → is_in n xs ≡ true
+binding-none Binding n xs b h = absurd (cc)
+binding-none Idle n xs b h = absurd (cc)
+binding-none (AddressInUse at) n xs b h = absurd (cc)
+binding-none (Adopting fd) n xs b h = absurd (cc)
+binding-none (Holding fd) n xs b h = absurd (cc)
+binding-none AdoptionFailed n xs b h = absurd (cc)
+
+-- an answer that the endpoint's address is in use, by which the service fails where b says so
+module _ (p : Plan) (d made new : EndpointsData) (s i moment : ℕ) (sized : IsEndpointsSized p d) (inside : s < service_count p)
+    (within : i < length (endpoints p s)) (keep : List ℕ) (before after : List Action × ℕ) (is : made ≡ refused p d s i moment)
+    (asks : is_binding (last_at d s i) ≡ true) where
+  table_refused : (refused p d s i moment).table ≡ d.table
+  table_refused = table-fail (is_last_refusal p d s i) s (put d s i _)
+
+  pub few-refused : (b : Bool) → ClosesOwnIf b (Fail s ∷ []) p keep s None made new before after
+      → length (list_of after) + length new.table ≤ length (list_of before) + length d.table + 2
+  few-refused true gives = few-failed p d (refused p d s i moment) made new (InUse s i) s i None keep before after is gives table_refused
+  few-refused false gives =
+      let told = ap (λ (a : List Action × ℕ). length (list_of a)) gives.1 in
+      let rest = ap (λ (m : EndpointsData). length m.table) (gives.0 ∙ is) ∙ ap length table_refused in
+      omega (arith, told, rest)
+
+  pub room-refused : (b : Bool) → ClosesOwnIf b (Fail s ∷ []) p keep s None made new before after
+      → spare before + length new.table ≤ spare after + length d.table + 2
+  room-refused true gives = room-failed p d (refused p d s i moment) made new (InUse s i) s i None keep before after is gives table_refused
+  room-refused false gives =
+      let room = ap (λ (a : List Action × ℕ). spare a) gives.1 in
+      let rest = ap (λ (m : EndpointsData). length m.table) (gives.0 ∙ is) ∙ ap length table_refused in
+      omega (arith, room, rest)
+
+  pub tells-refused : (b : Bool) → is_last_refusal p d s i ≡ b → ClosesOwnIf b (Fail s ∷ []) p keep s None made new before after
+      → Tells (list_of before) (list_of after)
+      (λ told. IsGivingUp told
+      × ((q : Record) → moment ≡ now q → AreOnOffer p keep q → EndpointsStand p d q → EndpointsStand p new (tell (Got (InUse s i) ∷ q) told)))
+  tells-refused true e gives =
+      tells-failed_at p d (refused p d s i moment) made new (InUse s i) s i None keep before after is gives
+      (changed-ask p d s i sized inside within (is_last_refusal p d s i) _ (binding_asks (last_at d s i) asks))
+      (failed-ask p d s i sized inside within (is_last_refusal p d s i) _ e) table_refused (λ x h. binding-none (last_at d s i) x [] asks h) moment
+      (λ q at offer stand. after-in_use p d q s i sized inside within keep offer stand moment at asks true e)
+  tells-refused false e gives = record {
+    told = [];
+    appended = ap list_of gives.1 ∙ sym (append-nil (list_of before));
+    kept = (
+      tt,
+      λ q at offer stand. subst (λ (m : EndpointsData). EndpointsStand p m (Got (InUse s i) ∷ q)) (sym (gives.0 ∙ is))
+          (after-in_use p d q s i sized inside within keep offer stand moment at asks false e),
+    );
+  }
 
 -- an answer that its address is in use leaves the table
 pub table-refused : (p : Plan) (d : EndpointsData) (s i moment : ℕ) → (refused p d s i moment).table ≡ d.table

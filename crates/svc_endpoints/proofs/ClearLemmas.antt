@@ -23,7 +23,7 @@ use Rattle.svc_endpoints.specs.Effects.{passes, is_abandoned_by, is_done_for, go
 use Rattle.svc_endpoints.specs.Uses.{is_drained_by}
 use Rattle.svc_base.proofs.NumberSetLemmas.{any-ascending, filter-ascending, in-filter, distinct-ascending}
 use Rattle.svc_base.proofs.Logic.{apart_from, not_in, clash, bool_same, option_cases as cases_address, neither}
-use Rattle.svc_endpoints.proofs.GoneLemmas.{is_turned, is_gone_now, loops-table, loops-closes}
+use Rattle.svc_endpoints.proofs.GoneLemmas.{is_turned, is_gone_now, loops-table, loops-closes, closed-is}
 use Rattle.svc_endpoints.proofs.UseLemmas.{drained-is, early-none}
 use Rattle.svc_endpoints.proofs.CloseLemmas.{along-closes, closed-tell, opened-tell, with-tell, numbers-tell, once-tell, left_out}
 use Rattle.svc_endpoints.proofs.RestLemmas.{part_in, picked-with, picked-numbers, picked-stays, picked-from, picks-some, none-picked, some-passes, passes-at, with-None, distinct-part}
@@ -282,3 +282,31 @@ module _ (p : Plan) (keep : List ℕ) (d : EndpointsData) (q : Record) (offer : 
     came_are = mid.came_are ∙ ap ascending (sym (along-closes (λ x. numbers_in x ≡ numbers_in q) (λ x n h. h) q ns refl));
     came_apart = along-closes (λ x. distinct (numbers_in x) ≡ true) (λ x n h. h) q ns mid.came_apart;
   }
+
+-- nothing that is live was gone before an event
+module _ (p : Plan) (d : EndpointsData) (q : Record) (stand : EndpointsStand p d q) where
+  closed_is : (fd : ℕ) → is_opened p q fd ≡ true → has (is_close fd) q ≡ is_gone p q fd
+  closed_is fd came = closed-is p q fd stand.closes_once (stand.closes fd came)
+
+  before : Answered p d q
+  before = record {
+    states = stand.states;
+    loops = stand.loops;
+    kept = stand.kept;
+    asks_due = stand.asks_due;
+    asks_known = stand.asks_known;
+    closes_once = stand.closes_once;
+    fails = stand.fails;
+    closed_gone = λ fd came closed. sym (closed_is fd came) ∙ closed;
+    turned_closed = λ fd came turned. closed_is fd came ∙ or_left (is_gone_now p q fd) (is_drained p q fd) (or_left (is_turned p q fd) _ turned);
+    open_are = stand.open_are;
+    came_are = stand.came_are;
+    came_apart = stand.came_apart;
+  }
+
+  pub none-gone-before : (keep : List ℕ) → AreOnOffer p keep q → (n : ℕ) → is_in n (gone_numbers p keep d d.table) ≡ false
+  none-gone-before keep offer n = elim (cases_Bool (is_in n (gone_numbers p keep d d.table))) [
+    | inl y ↦ (let live = goes-live p keep d q offer before n y in
+        absurd (clash (is_gone p q n) (goes-gone p keep d q offer before n y) (sym (closed_is n live.0) ∙ live.1)))
+    | inr m ↦ m
+  ]

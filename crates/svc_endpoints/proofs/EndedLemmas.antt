@@ -38,7 +38,7 @@ use Rattle.svc_endpoints.proofs.GoneLemmas.{is_turned, is_gone_now, closed-is}
 use Rattle.svc_endpoints.proofs.GrowLemmas.{gone-grows}
 use Rattle.svc_endpoints.proofs.FailLemmas.{fails-same}
 use Rattle.svc_endpoints.proofs.EventLemmas.{opened_is-event, numbers-event, place-event, turned-event}
-use Rattle.svc_endpoints.proofs.ClearLemmas.{Answered, stands-cleared, goes-live, goes-gone}
+use Rattle.svc_endpoints.proofs.ClearLemmas.{Answered, stands-cleared, none-gone-before}
 use Rattle.svc_endpoints.proofs.RestLemmas.{picked-length}
 use Rattle.svc_endpoints.proofs.DrainedLemmas.{filter-live}
 use Rattle.svc_endpoints.proofs.AnswerLemmas.{giving-closes}
@@ -215,32 +215,8 @@ module _ (p : Plan) (d : EndpointsData) (q : Record) (sized : IsEndpointsSized p
     came_apart = stand.came_apart;
   }
 
-  -- nothing that is live was gone
-  before : Answered p d q
-  before = record {
-    states = stand.states;
-    loops = stand.loops;
-    kept = stand.kept;
-    asks_due = stand.asks_due;
-    asks_known = stand.asks_known;
-    closes_once = stand.closes_once;
-    fails = stand.fails;
-    closed_gone = λ fd came closed. sym (closed_is fd came) ∙ closed;
-    turned_closed = λ fd came turned. closed_is fd came ∙ or_left (is_gone_now p q fd) (is_drained p q fd) (or_left (is_turned p q fd) _ turned);
-    open_are = stand.open_are;
-    came_are = stand.came_are;
-    came_apart = stand.came_apart;
-  }
-    where
-      closed_is : (fd : ℕ) → is_opened p q fd ≡ true → has (is_close fd) q ≡ is_gone p q fd
-      closed_is fd came = closed-is p q fd stand.closes_once (stand.closes fd came)
-
   none_gone : (keep : List ℕ) → AreOnOffer p keep q → (n : ℕ) → is_in n (gone_numbers p keep d d.table) ≡ false
-  none_gone keep offer n = elim (cases_Bool (is_in n (gone_numbers p keep d d.table))) [
-    | inl y ↦ (let live = goes-live p keep d q offer before n y in
-        absurd (clash (is_gone p q n) (goes-gone p keep d q offer before n y) (sym (closed-is p q n stand.closes_once (stand.closes n live.0)) ∙ live.1)))
-    | inr m ↦ m
-  ]
+  none_gone keep offer n = none-gone-before p d q stand keep offer n
 
   -- of what was used, nothing but the endpoint's descriptor is drained now, and that where each of its loops has ended
   drained_there : (fd : ℕ) → is_drained_by p d fd ≡ false → is_drained_by p d2 fd ≡ drains_at p d2 s i fd

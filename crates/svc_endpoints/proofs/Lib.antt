@@ -25,12 +25,14 @@ pub mod EventLemmas
 pub mod NamedLemmas
 pub mod AbandonedLemmas
 pub mod ClearLemmas
+pub mod OwnLemmas
 pub mod AnswerLemmas
 pub mod ReleaseLemmas
 pub mod BoundStands
 pub mod NewLemmas
 pub mod Laws
 pub mod DrainedLemmas
+pub mod FailingLemmas
 pub mod EndedLemmas
 pub mod GatherLemmas
 pub mod DecodeLemmas

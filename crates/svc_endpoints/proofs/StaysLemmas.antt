@@ -12,7 +12,9 @@ use Rattle.svc_endpoints.specs.declared.visit.Visit.{Visit}
 use Rattle.svc_endpoints.specs.declared.visit.Visit.TheVariants.{Nothing, Binds, Adopts}
 use Rattle.svc_endpoints.specs.EndpointsData.{EndpointsData}
 use Rattle.svc_endpoints.specs.EndpointsState.{IsEndpointsSized, last_at, failed_at, is_binding, is_adopting, is_asking, is_holding, times_in_use_at, numbers_with}
-use Rattle.svc_endpoints.specs.Effects.{first_of, not_empty, has_open, goes, put, fail_if, refused, is_last_refusal, bind_failed, adopt_failed, adopted, held_now, cleared_if, bound_or_again}
+use Rattle.svc_endpoints.specs.Effects.{first_of, not_empty, has_open, put, fail_if, refused, is_last_refusal, bind_failed, adopt_failed, adopted, held_now, bound_or_again}
+use Rattle.svc_record.specs.declared.action.Action.{Action}
+use Rattle.svc_endpoints.specs.Failing.{ClosesOwn, ClosesOwnIf, goes_among}
 use Rattle.svc_endpoints.specs.Visits.{IsDecided, IsFirst, IsWithin, busy_in, adopt_or_bind, decide_at, after}
 use Rattle.svc_endpoints.specs.Stays.{FailsOnly, StaysHeld, StaysUnheld, OthersStay, GainsNone, GainsOnly}
 use Rattle.svc_endpoints.proofs.OneLemmas.{binding_asks}
@@ -35,27 +37,10 @@ held-changed p d e s i h t k held =
 pub held-same : (d e : EndpointsData) → e.rows ≡ d.rows → StaysHeld d e
 held-same d e same t k held = subst (λ r. is_holding (last_at (record d { rows = r }) t k) ≡ true) (sym same) held
 
-held_cleared : (b : Bool) (p : Plan) (keep : List ℕ) (d e : EndpointsData) → StaysHeld d e → StaysHeld d (cleared_if b p keep e)
-held_cleared true p keep d e h t k held = h t k held
-held_cleared false p keep d e h t k held = h t k held
-
 -- a service's flag that is set, or not
 fails_if : (b : Bool) (s : ℕ) (flags : List Bool) (d : EndpointsData) → d.failed ≡ flags → FailsOnly s flags (fail_if b s d).failed
 fails_if true s flags d same = inr (ap (λ f. slice_set f s true) same)
 fails_if false s flags d same = inl same
-
-failed_cleared : (b : Bool) (p : Plan) (keep : List ℕ) (d : EndpointsData) → (cleared_if b p keep d).failed ≡ d.failed
-failed_cleared true p keep d = refl
-failed_cleared false p keep d = refl
-
--- what an answer leaves, after which what goes is closed
-module _ (p : Plan) (d mid made new : EndpointsData) (b : Bool) (keep : List ℕ) (is : made ≡ mid) (left : new ≡ cleared_if b p keep made) where
-  pub fails-answer : (s : ℕ) → FailsOnly s d.failed mid.failed → FailsOnly s d.failed new.failed
-  fails-answer s h =
-      subst (FailsOnly s d.failed) (sym (ap (λ (m : EndpointsData). m.failed) left ∙ failed_cleared b p keep made ∙ ap (λ (m : EndpointsData). m.failed) is)) h
-
-  pub held-answer : StaysHeld d mid → StaysHeld d new
-  held-answer h = subst (λ (m : EndpointsData). StaysHeld d m) (sym (left ∙ ap (cleared_if b p keep) is)) (held_cleared b p keep d mid h)
 
 -- the flags after each kind of answer
 pub fails-refused : (p : Plan) (d : EndpointsData) (s i moment : ℕ) → FailsOnly s d.failed (refused p d s i moment).failed
@@ -137,15 +122,6 @@ module _ (p : Plan) (d : EndpointsData) (s : ℕ) (sized : IsEndpointsSized p d)
 others-then : (s : ℕ) (d e f : EndpointsData) → OthersStay s d e → f.rows ≡ e.rows → OthersStay s d f
 others-then s d e f h same t k ne = ap (λ (r : List (List EndpointState)). last_at (record d { rows = r }) t k) same ∙ h t k ne
 
-rows_cleared : (b : Bool) (p : Plan) (keep : List ℕ) (d : EndpointsData) → (cleared_if b p keep d).rows ≡ d.rows
-rows_cleared true p keep d = refl
-rows_cleared false p keep d = refl
-
-pub others-answer : (p : Plan) (d mid made new : EndpointsData) (b : Bool) (keep : List ℕ) (s : ℕ) → made ≡ mid → new ≡ cleared_if b p keep made
-    → OthersStay s d mid → OthersStay s d new
-others-answer p d mid made new b keep s is left h =
-    others-then s d mid new h (ap (λ (m : EndpointsData). m.rows) left ∙ rows_cleared b p keep made ∙ ap (λ (m : EndpointsData). m.rows) is)
-
 module _ (p : Plan) (d : EndpointsData) (s i : ℕ) (sized : IsEndpointsSized p d) (inside : s < service_count p) (within : i < length (endpoints p s)) where
   pub others-put : (b : Bool) (x : EndpointState) → OthersStay s d (fail_if b s (put d s i x))
   others-put b x t k ne =
@@ -184,11 +160,6 @@ unheld_if false x y h g = g
 unheld-then : (d e f : EndpointsData) → StaysUnheld d e → f.rows ≡ e.rows → StaysUnheld d f
 unheld-then d e f h same t k off = ap (λ (r : List (List EndpointState)). is_holding (last_at (record d { rows = r }) t k)) same ∙ h t k off
 
-pub unheld-answer : (p : Plan) (d mid made new : EndpointsData) (b : Bool) (keep : List ℕ) → made ≡ mid → new ≡ cleared_if b p keep made → StaysUnheld d mid
-    → StaysUnheld d new
-unheld-answer p d mid made new b keep is left h =
-    unheld-then d mid new h (ap (λ (m : EndpointsData). m.rows) left ∙ rows_cleared b p keep made ∙ ap (λ (m : EndpointsData). m.rows) is)
-
 module _ (p : Plan) (d : EndpointsData) (s i : ℕ) (sized : IsEndpointsSized p d) (inside : s < service_count p) (within : i < length (endpoints p s)) where
   pub unheld-put : (b : Bool) (x : EndpointState) → is_holding x.last ≡ false → StaysUnheld d (fail_if b s (put d s i x))
   unheld-put b x free t k off =
@@ -226,15 +197,62 @@ open_left f (o ∷ more) a none = elim (cases_Bool (same_address o.address a)) [
 pub gains-filter : (d new : EndpointsData) (f : Open → Bool) → new.table ≡ filter f d.table → GainsNone d new
 gains-filter d new f is a none = ap (λ table. has_open table a) is ∙ open_left f d.table a none
 
-gains_cleared : (b : Bool) (p : Plan) (keep : List ℕ) (d : EndpointsData) → GainsNone d (cleared_if b p keep d)
-gains_cleared true p keep d a none = open_left (λ (o : Open). not (goes p keep d o)) d.table a none
-gains_cleared false p keep d a none = none
+-- of the table alone something is gone
+pub record OnlyCloses (d next : EndpointsData) : Type 0 where
+  pub rows : next.rows ≡ d.rows
+  pub failed : next.failed ≡ d.failed
+  pub gains : GainsNone d next
 
-pub gains-answer : (p : Plan) (d mid made new : EndpointsData) (b : Bool) (keep : List ℕ) → made ≡ mid → new ≡ cleared_if b p keep made → mid.table ≡ d.table
-    → GainsNone d new
-gains-answer p d mid made new b keep is left same a none =
-    ap (λ (m : EndpointsData). has_open m.table a) left
-    ∙ gains_cleared b p keep made a (ap (λ (m : EndpointsData). has_open m.table a) is ∙ ap (λ table. has_open table a) same ∙ none)
+pub closes-own : (lead : List Action) (p : Plan) (keep : List ℕ) (s : ℕ) (offered : Option ℕ) (d next : EndpointsData) (before after : List Action × ℕ)
+    → ClosesOwn lead p keep s offered d next before after → OnlyCloses d next
+closes-own lead p keep s offered d next before after c = record {
+  rows = ap (λ (m : EndpointsData). m.rows) c.left;
+  failed = ap (λ (m : EndpointsData). m.failed) c.left;
+  gains = gains-filter d next (λ (o : Open). not (goes_among p keep d c.own o)) (ap (λ (m : EndpointsData). m.table) c.left);
+}
+
+pub closes-own_if : (b : Bool) (lead : List Action) (p : Plan) (keep : List ℕ) (s : ℕ) (offered : Option ℕ) (d next : EndpointsData)
+    (before after : List Action × ℕ) → ClosesOwnIf b lead p keep s offered d next before after → OnlyCloses d next
+closes-own_if true lead p keep s offered d next before after c = closes-own lead p keep s offered d next before after c
+closes-own_if false lead p keep s offered d next before after c = record {
+  rows = ap (λ (m : EndpointsData). m.rows) c.0;
+  failed = ap (λ (m : EndpointsData). m.failed) c.0;
+  gains = λ a none. ap (λ (m : EndpointsData). has_open m.table a) c.0 ∙ none;
+}
+
+-- the parts fit the plan still
+pub sized-own_if : (b : Bool) (lead : List Action) (p : Plan) (keep : List ℕ) (s : ℕ) (offered : Option ℕ) (d next : EndpointsData)
+    (before after : List Action × ℕ) → ClosesOwnIf b lead p keep s offered d next before after → IsEndpointsSized p d → IsEndpointsSized p next
+sized-own_if true lead p keep s offered d next before after c sized = subst (λ (m : EndpointsData). IsEndpointsSized p m) (sym c.left) (record {
+  services = sized.services;
+  failed = sized.failed;
+  each = sized.each;
+  few = sized.few;
+  shared = sized.shared;
+  tasks = sized.tasks;
+})
+sized-own_if false lead p keep s offered d next before after c sized = subst (λ (m : EndpointsData). IsEndpointsSized p m) (sym c.0) sized
+
+-- what an answer leaves, after which what goes is closed
+module _ (d mid made new : EndpointsData) (is : made ≡ mid) (closes : OnlyCloses made new) where
+  rows_then : new.rows ≡ mid.rows
+  rows_then = closes.rows ∙ ap (λ (m : EndpointsData). m.rows) is
+
+  pub fails-answer : (s : ℕ) → FailsOnly s d.failed mid.failed → FailsOnly s d.failed new.failed
+  fails-answer s h = subst (FailsOnly s d.failed) (sym (closes.failed ∙ ap (λ (m : EndpointsData). m.failed) is)) h
+
+  pub held-answer : StaysHeld d mid → StaysHeld d new
+  held-answer h t k held = held-same mid new rows_then t k (h t k held)
+
+  pub others-answer : (s : ℕ) → OthersStay s d mid → OthersStay s d new
+  others-answer s h = others-then s d mid new h rows_then
+
+  pub unheld-answer : StaysUnheld d mid → StaysUnheld d new
+  unheld-answer h = unheld-then d mid new h rows_then
+
+  pub gains-answer : mid.table ≡ d.table → GainsNone d new
+  gains-answer same a none =
+      closes.gains a (ap (λ (m : EndpointsData). has_open m.table a) is ∙ ap (λ (table : List Open). has_open table a) same ∙ none)
 
 -- a bind's descriptor has the one address
 none_there : (xs : List ℕ) → not_empty xs ≡ false → xs ≡ []

@@ -6,6 +6,7 @@ pub mod EndpointsState
 pub mod Rows
 pub mod Uses
 pub mod Effects
+pub mod Failing
 pub mod Counts
 pub mod Visits
 pub mod Calm

@@ -1,10 +1,10 @@
 //! What answers to asks make of the endpoints.
 
-ghost use Rattle.std.specs.Prelude.{◌≡◌, ◌+◌, ◌<◌, ◌≤◌, ◌++◌, ◌∷◌, ◌==◌, [], length, ℕ, Some, IfSome, true, false, not, ◌&&◌, nat_lt, map};
+ghost use Rattle.std.specs.Prelude.{◌≡◌, ◌+◌, ◌<◌, ◌≤◌, ◌++◌, ◌∷◌, ◌==◌, [], length, ℕ, Some, None, IfSome, true, false, not, ◌&&◌, nat_lt, map};
 ghost use Rattle.std.specs.List.{list_any};
 ghost use Rattle.std.specs.Option.{option_to_list};
 ghost use Rattle.svc_base.specs.NumberSets.{is_in};
-ghost use Rattle.svc_record.specs.declared.action.Action.TheVariants.{Close};
+ghost use Rattle.svc_record.specs.declared.action.Action.TheVariants.{Close, Fail};
 ghost use Rattle.svc_base.specs.Items.{list_of, spare};
 ghost use Rattle.svc_record.specs.declared.entry.Entry.TheVariants.{Got};
 ghost use Rattle.svc_record.specs.declared.event.Event.{Event};
@@ -19,7 +19,8 @@ ghost use Rattle.svc_record.specs.Record.{Record, has, now, tell};
 ghost use Rattle.svc_record.specs.Told.{Tells, IsGivingUp};
 ghost use Rattle.svc_endpoints.specs.EndpointsState.{IsEndpointsSized, EndpointsStand, AreOnOffer, last_at, open_numbers, is_binding, is_adopting, is_done, held_of};
 ghost use Rattle.svc_endpoints.specs.Foreign.{is_endpoints_event};
-ghost use Rattle.svc_endpoints.specs.Effects.{is_last_refusal, refused, bind_failed, adopt_failed, adopted, bound_or_again, has_open, cleared_if, given_up_if, close_told, drains_at, closed_out, numbers_among};
+ghost use Rattle.svc_endpoints.specs.Effects.{is_last_refusal, refused, bind_failed, adopt_failed, adopted, bound_or_again, has_open, close_told, drains_at, closed_out, numbers_among};
+ghost use Rattle.svc_endpoints.specs.Failing.{ClosesOwn, ClosesOwnIf};
 ghost use Rattle.svc_endpoints.specs.Loops.{has_loop};
 ghost use Rattle.svc_endpoints.specs.Stays.{FailsOnly, StaysHeld, StaysUnheld, OthersStay, GainsNone, GainsOnly};
 ghost use Rattle.svc_endpoints.specs.Uses.{serves_by, accepts_by};
@@ -27,7 +28,7 @@ ghost use Rattle.svc_endpoints.specs.Uses.{serves_by, accepts_by};
 use crate::endpoints::Endpoints;
 use crate::loops::is_done;
 use crate::naming::{address_of, endpoint_count, limit, service_count};
-use crate::states::{EndpointState, EndpointStatus};
+use crate::states::{EndpointState, EndpointStatus, fd_of};
 use svc_base::Text;
 use svc_record::{Action, Actions, Plan};
 
@@ -125,7 +126,7 @@ impl Endpoints {
         ensures others { OthersStay s self.old.parts self.new.parts }
     {
         self.end_bind(plan, s, i);
-        self.give_up_if(true, plan, s, kept, actions);
+        self.give_up(plan, s, None, kept, actions);
     }
 
     /// The endpoint holds the descriptor that it was offered.
@@ -171,8 +172,9 @@ impl Endpoints {
         ensures gains { GainsNone self.old.parts self.new.parts }
         ensures others { OthersStay s self.old.parts self.new.parts }
     {
+        let offered = fd_of(self.last(s as usize, i as usize));
         self.end_adopt(plan, s, i);
-        self.give_up_if(true, plan, s, kept, actions);
+        self.give_up(plan, s, offered, kept, actions);
     }
 
     /// A loop of an endpoint ended: what is drained by that is closed. What is on offer to a
@@ -406,17 +408,34 @@ impl Endpoints {
         self.put_last(s as usize, i as usize, last);
     }
 
-    /// Where the service fails, it is given up, and what nobody needs any more is closed, but for
-    /// what is kept.
+    /// Says that the service, which may have been offered the descriptor, is given up, and closes what nobody
+    /// needs any more by that, but for what is kept.
+    fn give_up(
+        &mut self,
+        plan: &Plan,
+        s: u32,
+        offered: Option<u64>,
+        kept: &[u64],
+        actions: &mut Actions,
+    )
+        requires sized { IsEndpointsSized plan.now self.old.parts }
+        requires service { s < service_count plan.now }
+        requires room { length self.old.parts.table + 1 ≤ spare actions.old }
+        ensures { ClosesOwn (Fail s ∷ []) plan.now kept.now s offered self.old.parts self.new.parts actions.old actions.new }
+    {
+        actions.put(Action::Fail(s));
+        self.close_own(plan, s, offered, kept, actions);
+    }
+
+    /// The same where the service fails.
     fn give_up_if(&mut self, fails: bool, plan: &Plan, s: u32, kept: &[u64], actions: &mut Actions)
         requires sized { IsEndpointsSized plan.now self.old.parts }
+        requires service { s < service_count plan.now }
         requires room { length self.old.parts.table + 1 ≤ spare actions.old }
-        ensures after { self.new.parts ≡ cleared_if fails plan.now kept.now self.old.parts }
-        ensures told { list_of actions.new ≡ list_of actions.old ++ given_up_if fails plan.now s kept.now self.old.parts }
-        ensures room { spare actions.old + length self.new.parts.table ≤ spare actions.new + length self.old.parts.table + 1 }
+        ensures { ClosesOwnIf fails (Fail s ∷ []) plan.now kept.now s None self.old.parts self.new.parts actions.old actions.new }
     {
         if fails {
-            self.give_up(plan, s, kept, actions);
+            self.give_up(plan, s, None, kept, actions);
         }
     }
 }

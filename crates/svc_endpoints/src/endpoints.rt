@@ -9,9 +9,11 @@ ghost use Rattle.svc_record.specs.Plans.{service_count, endpoints, address};
 ghost use Rattle.svc_record.specs.Tail.{each_once};
 ghost use Rattle.svc_record.specs.Validity.{IsValid};
 ghost use Rattle.svc_endpoints.specs.EndpointsState.{IsEndpointsSized, EndpointsStand, last_at, failed_at, state_at, open_numbers, numbers_with, is_binding, is_adopting, is_holding, all_new};
-ghost use Rattle.svc_base.specs.NumberSets.{is_in};
+ghost use Rattle.svc_base.specs.Blocks.{rises_by, has_key, StandsIn};
+ghost use Rattle.svc_base.specs.NumberSets.{is_in, distinct};
+ghost use Rattle.svc_endpoints.specs.declared.table.Open.{Open};
 ghost use Rattle.svc_endpoints.specs.declared.states.EndpointStatus.TheVariants.{Idle};
-ghost use Rattle.svc_endpoints.specs.Effects.{held_now, put, put_last, bound, fail_if, has_open, first_of, with_number, cleared, given_up, gone_numbers, loop_ended, is_abandoned_by, put_opens, put_numbers, opens_of, without_numbers, without_number, numbers_like};
+ghost use Rattle.svc_endpoints.specs.Effects.{held_now, put, put_last, bound, fail_if, has_open, first_of, with_number, cleared, gone_numbers, loop_ended, is_abandoned_by, put_opens, put_numbers, opens_of, without_numbers, without_number, numbers_like};
 ghost use Rattle.svc_endpoints.specs.Sums.{sum_of};
 ghost use Rattle.svc_endpoints.specs.Calm.{IsServiceCalm};
 ghost use Rattle.svc_endpoints.specs.Uses.{is_drained_by};
@@ -24,7 +26,7 @@ use crate::states::{
     EndpointState, EndpointStatus, Row, held_now, is_adopting, is_binding, new_flags, new_rows,
 };
 use crate::sums::{shared_sums, sum_of};
-use crate::table::Table;
+use crate::table::{Open, Table};
 use crate::uses::{Share, Uses, holder_share, share_of};
 use std::alloc::Global;
 use std::marker::Model;
@@ -496,6 +498,24 @@ impl Endpoints {
         &self.table
     }
 
+    /// The states of the service's endpoints.
+    pub(crate) fn row(&self, s: usize) -> &Row
+        requires { s < length self.now.parts.rows }
+        ensures { result.now ≡ slice_index_or self.now.parts.rows s [] }
+    {
+        &self.rows[s]
+    }
+
+    /// The live descriptor with the number.
+    pub(crate) fn entry(&self, fd: u64) -> Option<&Open>
+        ensures found { IfSome result (λ o. StandsIn (λ (x : Open). x.fd) fd self.now.parts.table o.now) }
+        ensures absent { IfNone result (has_key (λ (x : Open). x.fd) fd self.now.parts.table ≡ false) }
+        ensures rise { rises_by (λ (x : Open). x.fd) self.now.parts.table ≡ true }
+        ensures once { distinct (open_numbers self.now.parts) ≡ true }
+    {
+        self.table.entry(fd)
+    }
+
     /// The live descriptor with this address.
     pub(crate) fn find(&self, address: &str) -> Option<u64>
         ensures came { IfSome result (λ fd. is_in fd self.now.parts.came ≡ true) }
@@ -551,19 +571,6 @@ impl Endpoints {
         );
         self.came.add(fd);
         put_bit(&mut self.busy, s as u32, busy);
-    }
-
-    /// Says that the service is given up, and closes what nobody needs any more, but for what is
-    /// kept.
-    pub(crate) fn give_up(&mut self, plan: &Plan, s: u32, kept: &[u64], actions: &mut Actions)
-        requires sized { IsEndpointsSized plan.now self.old.parts }
-        requires room { length self.old.parts.table + 1 ≤ spare actions.old }
-        ensures after { self.new.parts ≡ cleared plan.now kept.now self.old.parts }
-        ensures told { list_of actions.new ≡ list_of actions.old ++ given_up plan.now s kept.now self.old.parts }
-        ensures room { spare actions.old + length self.new.parts.table ≤ spare actions.new + length self.old.parts.table + 1 }
-    {
-        actions.put(Action::Fail(s));
-        self.clear(plan, kept, actions);
     }
 
     /// The live descriptor is drained.

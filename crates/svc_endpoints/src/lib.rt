@@ -6,6 +6,7 @@ mod answers;
 mod came;
 mod dues;
 mod endpoints;
+mod failing;
 mod firsts;
 mod loops;
 mod message;

@@ -1,6 +1,6 @@
 //! What a plan says of endpoints, and which services name an address.
 
-ghost use Rattle.std.specs.Prelude.{◌≡◌, ◌<◌, ◌≤◌, not, ◌&&◌, ◌||◌, length, Some, bytes_eq, slice_index_or, false};
+ghost use Rattle.std.specs.Prelude.{◌≡◌, ◌<◌, ◌≤◌, not, ◌&&◌, ◌||◌, length, Some, bytes_eq, slice_index_or, false, ℕ};
 ghost use Rattle.std.specs.List.{list_any, list_all};
 ghost use Rattle.svc_graph.specs.declared.plan.EndpointPlan.{EndpointPlan};
 ghost use Rattle.svc_record.specs.Plans.{service_count, services, endpoints, address, names, declares, declares_list, is_among, is_unclaimed};
@@ -87,11 +87,24 @@ fn declares_list(plan: &Plan, s: usize) -> bool
     plan.services.as_slice()[s].declared.is_some()
 }
 
-fn has_endpoint(list: &[EndpointPlan], address: &str) -> bool
+/// One of the endpoints has the address.
+pub(crate) fn has_endpoint(list: &[EndpointPlan], address: &str) -> bool
     ensures { result ≡ list_any (λ (x : EndpointPlan). bytes_eq x.address address.now) list.now }
 {
     for endpoint in list {
         if endpoint.address.as_str() == address {
+            return true;
+        }
+    }
+    false
+}
+
+/// Some service declares a list.
+pub(crate) fn any_list(plan: &Plan) -> bool
+    ensures { result ≡ false → (s : ℕ) → s < service_count plan.now → declares_list plan.now s ≡ false }
+{
+    for s in 0..service_count(plan) {
+        if declares_list(plan, s) {
             return true;
         }
     }

@@ -1,11 +1,12 @@
 //! What became of endpoints.
 
 ghost use Rattle.std.specs.Prelude.{◌≡◌, ◌<◌, ◌≤◌, [], length, ℕ, true, false, slice_index_or, slice_set, vec_len, IfOk, IfSome, ◌+◌, ◌^◌, ◌≢◌};
+ghost use Rattle.std.specs.Option.{option_to_list};
 ghost use Rattle.svc_record.specs.declared.plan.Plan.{Plan};
 ghost use Rattle.svc_record.specs.Plans.{service_count, endpoints};
 ghost use Rattle.svc_moments.specs.Least.{EndsAt};
 ghost use Rattle.svc_endpoints.specs.declared.states.EndpointStatus.TheVariants.{Idle};
-ghost use Rattle.svc_endpoints.specs.EndpointsState.{idle, is_binding, is_adopting, is_asking, is_holding};
+ghost use Rattle.svc_endpoints.specs.EndpointsState.{idle, fd_of, is_binding, is_adopting, is_asking, is_holding};
 ghost use Rattle.svc_endpoints.specs.Effects.{held_now};
 ghost use Rattle.svc_endpoints.specs.Visits.{busy_of};
 ghost use Rattle.svc_endpoints.specs.Calm.{IsCalm, IsRowCalm};
@@ -219,6 +220,16 @@ pub(crate) fn is_holding(last: EndpointStatus) -> bool
     match last {
         EndpointStatus::Holding(_) => true,
         _ => false,
+    }
+}
+
+/// The descriptor that it has or is offered.
+pub(crate) fn fd_of(last: EndpointStatus) -> Option<u64>
+    ensures { option_to_list result ≡ fd_of last }
+{
+    match last {
+        EndpointStatus::Adopting(fd) | EndpointStatus::Holding(fd) => Some(fd),
+        _ => None,
     }
 }
 

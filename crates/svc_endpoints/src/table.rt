@@ -1,8 +1,8 @@
 //! The live descriptors.
 
-ghost use Rattle.std.specs.Prelude.{true, ◌≡◌, ◌+◌, ◌<◌, ◌≤◌, ◌++◌, [], length, ℕ, List, Option, Some, None, OnOk, map, vec_len, ◌||◌, ◌&&◌, false, ◌^◌, if◌then◌else◌, ◌==◌, filter, not};
+ghost use Rattle.std.specs.Prelude.{true, ◌≡◌, ◌+◌, ◌<◌, ◌≤◌, ◌++◌, [], length, ℕ, List, Option, Some, None, IfSome, IfNone, OnOk, map, vec_len, ◌||◌, ◌&&◌, false, ◌^◌, if◌then◌else◌, ◌==◌, filter, not};
 ghost use Rattle.std.specs.Option.{option_to_list};
-ghost use Rattle.svc_base.specs.Blocks.{joined, rises_by};
+ghost use Rattle.svc_base.specs.Blocks.{joined, rises_by, has_key, StandsIn};
 ghost use Rattle.svc_base.specs.Items.{list_of, spare};
 ghost use Rattle.svc_base.specs.NumberSets.{is_in};
 ghost use Rattle.svc_record.specs.declared.plan.Plan.{Plan};
@@ -258,6 +258,15 @@ impl Table {
         ensures { result ≡ is_in fd (numbers_of_table (list_of self.now)) }
     {
         self.entries.find(fd).is_some()
+    }
+
+    /// The live descriptor with the number.
+    pub(crate) fn entry(&self, fd: u64) -> Option<&Open>
+        ensures found { IfSome result (λ o. StandsIn (λ (x : Open). x.fd) fd (list_of self.now) o.now) }
+        ensures absent { IfNone result (has_key (λ (x : Open). x.fd) fd (list_of self.now) ≡ false) }
+        ensures rise { rises_by (λ (x : Open). x.fd) (list_of self.now) ≡ true }
+    {
+        self.entries.find(fd)
     }
 
     /// The live descriptors, in ascending number, block after block.

@@ -1,55 +1,61 @@
-use Rattle.std.proofs.Common.{inr, true, refl}
-use Rattle.svc_base.specs.Items.{list_of}
+use Rattle.std.proofs.Common.{inr, [], true, refl, None}
 use Rattle.svc_record.specs.declared.event.Event.TheVariants.{BindFailed}
+use Rattle.svc_endpoints.specs.declared.states.EndpointStatus.TheVariants.{Idle}
+use Rattle.svc_endpoints.specs.declared.states.EndpointState.{EndpointState}
+use Rattle.svc_endpoints.specs.EndpointsState.{last_at, times_in_use_at}
 use Rattle.svc_endpoints.specs.Effects.{bind_failed}
-use Rattle.svc_endpoints.proofs.AnswerLemmas.{tells-answer, few-answer, after-bind_failed}
-use Rattle.svc_endpoints.proofs.StaysLemmas.{fails-answer, held-answer, held-bind_failed, others-answer, others-bind_failed, unheld-answer, unheld-bind_failed, gains-answer}
+use Rattle.svc_endpoints.proofs.AnswerLemmas.{tells-failed, few-failed, room-failed, after-bind_failed, changed-ask, failed-ask, binding-none}
+use Rattle.svc_endpoints.proofs.OneLemmas.{binding_asks}
+use Rattle.svc_endpoints.proofs.StaysLemmas.{closes-own, fails-answer, held-answer, held-bind_failed, others-answer, others-bind_failed, unheld-answer, unheld-bind_failed, gains-answer}
 use Rattle.svc_endpoints.proofs.endpoints.Endpoints.on_bind_failed.Goals as goal
 
 pub returns-clause-stands : goal.returns-clause-stands
 returns-clause-stands c =
-    tells-answer c.args.plan.now c.args.self.now.parts
-    (bind_failed c.args.self.now.parts c.args.s c.args.i) c.end_bind.new.self.parts c.give_up_if.new.self.parts
-    (BindFailed c.args.s c.args.i) true c.args.s c.args.kept.now
-    (list_of c.args.actions.now) (list_of c.give_up_if.new.actions) c.end_bind.ensures c.give_up_if.ensures.after c.give_up_if.ensures.told
-    (λ q offer stand. after-bind_failed c.args.plan.now c.args.self.now.parts q c.args.s c.args.i c.requires.sized c.requires.service c.requires.endpoint
+    let d = c.args.self.now.parts in
+    let state : EndpointState = record { last = Idle; times_in_use = times_in_use_at d c.args.s c.args.i } in
+    tells-failed c.args.plan.now d (bind_failed d c.args.s c.args.i) c.end_bind.new.self.parts c.give_up.new.self.parts (BindFailed c.args.s c.args.i)
+    c.args.s c.args.i None c.args.kept.now c.args.actions.now c.give_up.new.actions c.end_bind.ensures c.give_up.ensures
+    (changed-ask c.args.plan.now d c.args.s c.args.i c.requires.sized c.requires.service c.requires.endpoint true state
+    (binding_asks (last_at d c.args.s c.args.i) c.requires.asks))
+    (failed-ask c.args.plan.now d c.args.s c.args.i c.requires.sized c.requires.service c.requires.endpoint true state refl) refl
+    (λ x h. binding-none (last_at d c.args.s c.args.i) x [] c.requires.asks h)
+    (λ q offer stand. after-bind_failed c.args.plan.now d q c.args.s c.args.i c.requires.sized c.requires.service c.requires.endpoint
     c.args.kept.now offer stand c.requires.asks)
 
 pub returns-clause-few : goal.returns-clause-few
 returns-clause-few c =
-    few-answer c.args.plan.now c.args.self.now.parts (bind_failed c.args.self.now.parts c.args.s c.args.i) c.end_bind.new.self.parts c.give_up_if.new.self.parts
-    (BindFailed c.args.s c.args.i) true c.args.s c.args.kept.now
-    (list_of c.args.actions.now) (list_of c.give_up_if.new.actions) c.end_bind.ensures c.give_up_if.ensures.after c.give_up_if.ensures.told refl
+    few-failed c.args.plan.now c.args.self.now.parts (bind_failed c.args.self.now.parts c.args.s c.args.i) c.end_bind.new.self.parts c.give_up.new.self.parts
+    (BindFailed c.args.s c.args.i) c.args.s c.args.i None c.args.kept.now c.args.actions.now c.give_up.new.actions c.end_bind.ensures c.give_up.ensures refl
+
+pub returns-clause-room : goal.returns-clause-room
+returns-clause-room c =
+    room-failed c.args.plan.now c.args.self.now.parts (bind_failed c.args.self.now.parts c.args.s c.args.i) c.end_bind.new.self.parts c.give_up.new.self.parts
+    (BindFailed c.args.s c.args.i) c.args.s c.args.i None c.args.kept.now c.args.actions.now c.give_up.new.actions c.end_bind.ensures c.give_up.ensures refl
 
 pub returns-clause-failed : goal.returns-clause-failed
 returns-clause-failed c =
-    fails-answer c.args.plan.now c.args.self.now.parts
-    (bind_failed c.args.self.now.parts c.args.s c.args.i) c.end_bind.new.self.parts c.give_up_if.new.self.parts true c.args.kept.now
-    c.end_bind.ensures c.give_up_if.ensures.after c.args.s (inr refl)
+    fails-answer c.args.self.now.parts _ c.end_bind.new.self.parts c.give_up.new.self.parts c.end_bind.ensures
+    (closes-own _ _ _ _ _ _ _ _ _ c.give_up.ensures) c.args.s (inr refl)
 
 pub returns-clause-held : goal.returns-clause-held
 returns-clause-held c =
-    held-answer c.args.plan.now c.args.self.now.parts
-    (bind_failed c.args.self.now.parts c.args.s c.args.i) c.end_bind.new.self.parts c.give_up_if.new.self.parts true c.args.kept.now
-    c.end_bind.ensures c.give_up_if.ensures.after
+    held-answer c.args.self.now.parts _ c.end_bind.new.self.parts c.give_up.new.self.parts c.end_bind.ensures
+    (closes-own _ _ _ _ _ _ _ _ _ c.give_up.ensures)
     (held-bind_failed c.args.plan.now c.args.self.now.parts c.args.s c.args.i c.requires.sized c.requires.service c.requires.endpoint c.requires.asks)
 
 pub returns-clause-others : goal.returns-clause-others
 returns-clause-others c =
-    others-answer c.args.plan.now c.args.self.now.parts
-    (bind_failed c.args.self.now.parts c.args.s c.args.i) c.end_bind.new.self.parts c.give_up_if.new.self.parts true c.args.kept.now c.args.s
-    c.end_bind.ensures c.give_up_if.ensures.after
+    others-answer c.args.self.now.parts _ c.end_bind.new.self.parts c.give_up.new.self.parts c.end_bind.ensures
+    (closes-own _ _ _ _ _ _ _ _ _ c.give_up.ensures) c.args.s
     (others-bind_failed c.args.plan.now c.args.self.now.parts c.args.s c.args.i c.requires.sized c.requires.service c.requires.endpoint)
 
 pub returns-clause-unheld : goal.returns-clause-unheld
 returns-clause-unheld c =
-    unheld-answer c.args.plan.now c.args.self.now.parts
-    (bind_failed c.args.self.now.parts c.args.s c.args.i) c.end_bind.new.self.parts c.give_up_if.new.self.parts true c.args.kept.now
-    c.end_bind.ensures c.give_up_if.ensures.after
+    unheld-answer c.args.self.now.parts _ c.end_bind.new.self.parts c.give_up.new.self.parts c.end_bind.ensures
+    (closes-own _ _ _ _ _ _ _ _ _ c.give_up.ensures)
     (unheld-bind_failed c.args.plan.now c.args.self.now.parts c.args.s c.args.i c.requires.sized c.requires.service c.requires.endpoint)
 
 pub returns-clause-gains : goal.returns-clause-gains
 returns-clause-gains c =
-    gains-answer c.args.plan.now c.args.self.now.parts
-    (bind_failed c.args.self.now.parts c.args.s c.args.i) c.end_bind.new.self.parts c.give_up_if.new.self.parts true c.args.kept.now
-    c.end_bind.ensures c.give_up_if.ensures.after refl
+    gains-answer c.args.self.now.parts (bind_failed c.args.self.now.parts c.args.s c.args.i) c.end_bind.new.self.parts c.give_up.new.self.parts
+    c.end_bind.ensures (closes-own _ _ _ _ _ _ _ _ _ c.give_up.ensures) refl
