@@ -18,9 +18,7 @@ use Rattle.svc_endpoints.specs.Effects.{goes, passes, is_abandoned_by, numbers_l
 use Rattle.svc_endpoints.specs.Uses.{is_drained_by}
 use Rattle.svc_endpoints.specs.Failing.{goes_among, left_among, gone_among}
 use Rattle.svc_endpoints.proofs.DrainedLemmas.{filter-live, filter-by}
-
-abbrev number : Open → ℕ
-number o = o.fd
+use Rattle.svc_endpoints.proofs.FoundLemmas.{number}
 
 -- it has this number, and passes the test
 abbrev picks : ℕ → (Open → Bool) → Open → Bool
@@ -246,12 +244,15 @@ module _ (p : Plan) (keep own : List ℕ) (rising : IsNonDecreasing own) (i : �
       → before ++ map Close (gone_among p keep (drop i own) mid) ≡ told → after ≡ before ++ map Close (gone_among p keep (here ∷ []) mid)
       → new ≡ left_among p keep (here ∷ []) mid → after ++ map Close (gone_among p keep (drop (i + 1) own) new) ≡ told
   closes-next-told before after told lt rise was next left =
+      let one = gone_among p keep (here ∷ []) mid in
+      let others = gone_among p keep (drop (i + 1) own) (left_among p keep (here ∷ []) mid) in
       ap (λ (m : EndpointsData). after ++ map Close (gone_among p keep (drop (i + 1) own) m)) left
-      ∙ ap (λ l. l ++ map Close (gone_among p keep (drop (i + 1) own) (left_among p keep (here ∷ []) mid))) next
-      ∙ append_assoc before (map Close (gone_among p keep (here ∷ []) mid)) (map Close (gone_among p keep (drop (i + 1) own) (left_among p keep (here ∷ []) mid)))
+      ∙ ap (λ l. l ++ map Close others) next ∙ append_assoc before (map Close one) (map Close others)
       ∙ ap (λ l. before ++ l)
-      (sym (map-append Close (gone_among p keep (here ∷ []) mid) (gone_among p keep (drop (i + 1) own) (left_among p keep (here ∷ []) mid)))
-      ∙ ap (map Close) (sym (more-gone p keep mid here (drop (i + 1) own) (over_rest lt) rise) ∙ ap (λ xs. gone_among p keep xs mid) (sym (drop_more own i 0 lt))))
+      (sym (map-append Close one others)
+      ∙ ap (map Close)
+      (sym (more-gone p keep mid here (drop (i + 1) own) (over_rest lt) rise)
+      ∙ ap (λ xs. gone_among p keep xs mid) (sym (drop_more own i 0 lt))))
       ∙ was
 
   -- after the last
@@ -290,7 +291,3 @@ goes-is p keep d fd o s apart left drained l by =
     ∙ ap (λ b. (passes (is_abandoned_by p d.failed) o.address && not (is_in fd keep)) || b) (by (stands-live fd d.table o s))
     ∙ ap (λ n. (passes (is_abandoned_by p d.failed) o.address && not (is_in n keep)) || is_drained_by p d n) (sym s.has)
     ∙ sym (any-there fd (goes p keep d) d.table o s apart)
-
-pub or-known : (a b c : Bool) → (a ≡ true → c ≡ true) → b ≡ c → (a || b) ≡ c
-or-known true b c f e = sym (f refl)
-or-known false b c f e = e

@@ -12,7 +12,7 @@ use Rattle.svc_endpoints.specs.Sums.{sum_of}
 use Rattle.svc_endpoints.specs.Firsts.{has_sum, count_with, are_from}
 use Rattle.svc_endpoints.proofs.LiveLemmas.{same_eq}
 
-abbrev number : Open → ℕ
+abbrev pub number : Open → ℕ
 number o = o.fd
 
 -- one with the address has its sum

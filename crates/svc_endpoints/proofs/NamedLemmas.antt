@@ -20,7 +20,7 @@ all_get f n s lt h = elim (cases_Bool (f s)) [
   | inr m ↦ absurd (let none = fails0 f n s lt m in cc)
 ]
 
-abbrev address_at : Option EndpointPlan → Option (List ℕ)
+abbrev pub address_at : Option EndpointPlan → Option (List ℕ)
 address_at (Some x) = Some x.address
 address_at None = None
 

@@ -20,7 +20,7 @@ use Rattle.svc_endpoints.specs.declared.table.Open.{Open}
 use Rattle.svc_endpoints.specs.EndpointsData.{EndpointsData}
 use Rattle.svc_endpoints.specs.EndpointsState.{EndpointsStand, AreOnOffer, idle, last_at, failed_at, fd_of, is_done, numbers_of_table, numbers_with, open_numbers}
 use Rattle.svc_endpoints.specs.Effects.{first_of, passes, is_abandoned_by, is_done_for, goes, gone_numbers, cleared}
-use Rattle.svc_endpoints.specs.Failing.{AreNoted, HasOwn, HasOwnLive, goes_among, left_among, gone_among}
+use Rattle.svc_endpoints.specs.Failing.{AreListed, HasOwn, HasOwnLive, goes_among, left_among, gone_among}
 use Rattle.svc_endpoints.specs.Sums.{sum_of, AreShared}
 use Rattle.svc_endpoints.specs.declared.loops.LoopEnd.{LoopEnd}
 use Rattle.svc_endpoints.specs.Loops.{loop_count}
@@ -29,7 +29,7 @@ use Rattle.svc_endpoints.proofs.ChangeLemmas.{Changed}
 use Rattle.svc_endpoints.proofs.ClearLemmas.{none-gone-before}
 use Rattle.svc_endpoints.proofs.DrainedLemmas.{filter-live}
 use Rattle.svc_endpoints.proofs.LiveLemmas.{same_eq, same_self}
-use Rattle.svc_endpoints.proofs.NamedLemmas.{all-same}
+use Rattle.svc_endpoints.proofs.NamedLemmas.{address_at, all-same}
 use Rattle.svc_endpoints.proofs.RangeLemmas.{at0, all0}
 use Rattle.svc_endpoints.proofs.RestLemmas.{some-passes}
 use Rattle.svc_endpoints.proofs.UseLemmas.{drained-grows}
@@ -53,16 +53,13 @@ some_holds x (Some y) P e h = subst P (same y x e) h
 some_holds x None P e h = absurd (cc)
 
 module _ (p : Plan) (row : List EndpointState) (table : List Open) (s : ℕ) where
-  pub noted-none : (numbers : List ℕ) → AreNoted p row table s 0 numbers
-  noted-none numbers = record { held = λ k x lt h. absurd (omega arith); named = λ k x lt h. absurd (omega arith) }
-
-  pub noted-more : (i : ℕ) (first next last : List ℕ) (held named : Option ℕ) → AreNoted p row table s i first
+  pub listed-more : (i : ℕ) (first next last : List ℕ) (held named : Option ℕ) → AreListed p row table s i first
       → option_to_list held ≡ fd_of (slice_index_or row i idle).last → IfSome held (λ n. slice_index_or next (2 * i + 1) 0 ≡ n)
       → ((k : ℕ) → k ≢ 2 * i + 1 → slice_index_or next k 0 ≡ slice_index_or first k 0)
       → named ≡ first_of (numbers_with table (address p s i)) → IfSome named (λ n. slice_index_or last (2 * i + 2) 0 ≡ n)
       → ((k : ℕ) → k ≢ 2 * i + 2 → slice_index_or last k 0 ≡ slice_index_or next k 0)
-      → AreNoted p row table s (i + 1) last
-  noted-more i first next last held named was has here others is there same = record {
+      → AreListed p row table s (i + 1) last
+  listed-more i first next last held named was has here others is there same = record {
     held = λ k x lt h. elim (cases_eq k i) [
       | inl e ↦ subst (λ j. slice_index_or last (2 * j + 1) 0 ≡ x) (sym e)
           (same (2 * i + 1) (λ f. omega arith)
@@ -81,9 +78,10 @@ module _ (p : Plan) (row : List EndpointState) (table : List Open) (s : ℕ) whe
   -- in whatever order the numbers stand
   pub has-own : (offered : Option ℕ) (numbers noted sorted : List ℕ) → length row ≤ 64 → length noted ≡ 129
       → IfSome offered (λ n. slice_index_or numbers 0 0 ≡ n) → slice_index_or noted 0 0 ≡ slice_index_or numbers 0 0
-      → AreNoted p row table s (length row) noted → IsPermutation noted sorted → HasOwn p row table s offered sorted
+      → AreListed p row table s (length row) noted → IsPermutation noted sorted → HasOwn p row table s offered sorted
   has-own offered numbers noted sorted few len given first was moved = record {
-    offer = λ x h. there x 0 (omega arith) (first ∙ some_holds x offered (λ n. slice_index_or numbers 0 0 ≡ n) (found_is x offered (option_to_list offered) refl h) given);
+    offer = λ x h. there x 0 (omega arith)
+        (first ∙ some_holds x offered (λ n. slice_index_or numbers 0 0 ≡ n) (found_is x offered (option_to_list offered) refl h) given);
     held = λ k x lt h. there x (2 * k + 1) (omega arith) (was.held k x lt h);
     named = λ k x lt h. there x (2 * k + 2) (omega arith) (was.named k x lt h);
   }
@@ -111,10 +109,6 @@ all-live p d s offered = record {
 }
 
 -- an endpoint that has the address
-abbrev address_at : Option EndpointPlan → Option (List ℕ)
-address_at (Some x) = Some x.address
-address_at None = None
-
 find_named : (xs : List EndpointPlan) (a : List ℕ) → list_any (λ (x : EndpointPlan). bytes_eq x.address a) xs ≡ true
     → (k : ℕ) × (k < length xs) × (address_at (slice_get xs k) ≡ Some a)
 find_named [] a h = absurd (cc)
@@ -301,7 +295,8 @@ module _ (p : Plan) (d d2 : EndpointsData) (s i : ℕ) (offered : Option ℕ) (k
 
   goes_own : (o : Open) → Stands (goes p keep d) d.table o → goes p keep d2 o ≡ true → is_in o.fd own ≡ true
   goes_own o stands now =
-      let before = none_before (goes p keep d o) (λ y. clash (is_in o.fd (gone_numbers p keep d d.table)) (stands.picked y) (none-gone-before p d q stand keep offer o.fd)) in
+      let before = none_before (goes p keep d o)
+      (λ y. clash (is_in o.fd (gone_numbers p keep d d.table)) (stands.picked y) (none-gone-before p d q stand keep offer o.fd)) in
       let parts = or_parts (is_done_for p d.failed keep o) (is_drained_by p d o.fd) before in
       let live : is_in o.fd (open_numbers d2) ≡ true = ap (λ (t : List Open). is_in o.fd (numbers_of_table t)) table ∙ stands.live in
       elim (or_cases (is_done_for p d2.failed keep o) (is_drained_by p d2 o.fd) now) [

@@ -26,7 +26,7 @@ abbrev pub gone_among : Plan → List ℕ → List ℕ → EndpointsData → Lis
 gone_among p keep own d = numbers_of_table (filter (goes_among p keep d own) d.table)
 
 -- of the first n endpoints of s, each of which has two places among the numbers, what each has or is offered stands there, and what has its address
-pub record AreNoted (p : Plan) (row : List EndpointState) (table : List Open) (s n : ℕ) (numbers : List ℕ) : Type 0 where
+pub record AreListed (p : Plan) (row : List EndpointState) (table : List Open) (s n : ℕ) (numbers : List ℕ) : Type 0 where
   pub held : (k x : ℕ) → k < n → is_in x (fd_of (slice_index_or row k idle).last) ≡ true → slice_index_or numbers (2 * k + 1) 0 ≡ x
   pub named : (k x : ℕ) → k < n → first_of (numbers_with table (address p s k)) ≡ Some x → slice_index_or numbers (2 * k + 2) 0 ≡ x
 

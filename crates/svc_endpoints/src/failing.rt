@@ -12,7 +12,7 @@ ghost use Rattle.svc_record.specs.Plans.{service_count, endpoints, declares_list
 ghost use Rattle.svc_endpoints.specs.declared.table.Open.{Open};
 ghost use Rattle.svc_endpoints.specs.EndpointsState.{IsEndpointsSized, open_numbers};
 ghost use Rattle.svc_endpoints.specs.Effects.{is_abandoned_by, passes};
-ghost use Rattle.svc_endpoints.specs.Failing.{AreNoted, HasOwn, ClosesOwn, goes_among, left_among, gone_among};
+ghost use Rattle.svc_endpoints.specs.Failing.{AreListed, HasOwn, ClosesOwn, goes_among, left_among, gone_among};
 
 use crate::came::contains;
 use crate::endpoints::Endpoints;
@@ -40,7 +40,7 @@ fn note_all(numbers: &mut [u64], plan: &Plan, row: &Row, table: &Table, s: usize
     requires few { length row.now ≤ 64 }
     requires room { length numbers.old ≡ 129 }
     ensures length { length numbers.new ≡ 129 }
-    ensures noted { AreNoted plan.now row.now (list_of table.now) s (length row.now) numbers.new }
+    ensures noted { AreListed plan.now row.now (list_of table.now) s (length row.now) numbers.new }
     ensures first { slice_index_or numbers.new 0 0 ≡ slice_index_or numbers.old 0 0 }
 {
     for i in 0..row.len() {

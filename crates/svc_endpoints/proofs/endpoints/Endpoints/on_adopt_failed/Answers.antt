@@ -26,12 +26,14 @@ returns-clause-stands c =
 pub returns-clause-few : goal.returns-clause-few
 returns-clause-few c =
     few-failed c.args.plan.now c.args.self.now.parts (adopt_failed c.args.self.now.parts c.args.s c.args.i) c.end_adopt.new.self.parts c.give_up.new.self.parts
-    (AdoptFailed c.args.s c.args.i) c.args.s c.args.i c.fd_of-offered.result c.args.kept.now c.args.actions.now c.give_up.new.actions c.end_adopt.ensures c.give_up.ensures refl
+    (AdoptFailed c.args.s c.args.i) c.args.s c.args.i c.fd_of-offered.result c.args.kept.now c.args.actions.now c.give_up.new.actions c.end_adopt.ensures
+    c.give_up.ensures refl
 
 pub returns-clause-room : goal.returns-clause-room
 returns-clause-room c =
     room-failed c.args.plan.now c.args.self.now.parts (adopt_failed c.args.self.now.parts c.args.s c.args.i) c.end_adopt.new.self.parts c.give_up.new.self.parts
-    (AdoptFailed c.args.s c.args.i) c.args.s c.args.i c.fd_of-offered.result c.args.kept.now c.args.actions.now c.give_up.new.actions c.end_adopt.ensures c.give_up.ensures refl
+    (AdoptFailed c.args.s c.args.i) c.args.s c.args.i c.fd_of-offered.result c.args.kept.now c.args.actions.now c.give_up.new.actions c.end_adopt.ensures
+    c.give_up.ensures refl
 
 pub returns-clause-failed : goal.returns-clause-failed
 returns-clause-failed c =
