@@ -10,7 +10,7 @@ use Rattle.svc_record.specs.declared.action.Action.{Action}
 use Rattle.svc_record.specs.declared.plan.Plan.{Plan}
 use Rattle.svc_record.specs.Validity.{IsValid}
 use Rattle.svc_record.specs.Journal.{PostData, own_posts}
-use Rattle.svc_book.specs.BookData.{BookData}
+use Rattle.svc_shared.specs.BookData.{BookData}
 use Rattle.svc_shared.specs.declared.view.Ended.{Ended}
 use Rattle.svc_shared.specs.declared.view.SeatView.{SeatView}
 use Rattle.svc_shared.specs.declared.pass.Pass.{Pass}

@@ -8,7 +8,7 @@ use Rattle.svc_record.specs.declared.action.Action.{Action}
 use Rattle.svc_record.specs.declared.action.StepEnd.{StepEnd}
 use Rattle.svc_record.specs.declared.action.StepEnd.TheVariants.{On, Served, Tested, Parent, Ended}
 use Rattle.svc_record.specs.Journal.{PostData, post}
-use Rattle.svc_book.specs.Journals.{FitsAfter, end_after}
+use Rattle.svc_shared.specs.Journals.{FitsAfter, end_after}
 use Rattle.svc_shared.specs.declared.pass.Pass.{Pass}
 use Rattle.svc_shared.specs.declared.pass.Posted.{Posted}
 use Rattle.svc_shared.specs.declared.pass.SharedServer.{SharedServer}

@@ -6,8 +6,8 @@ use Rattle.svc_record.specs.declared.event.Event.{Event}
 use Rattle.svc_record.specs.declared.action.Action.{Action}
 use Rattle.svc_record.specs.declared.action.StepEnd.TheVariants.{On}
 use Rattle.svc_record.specs.Journal.{PostData}
-use Rattle.svc_book.specs.BookData.{BookData}
-use Rattle.svc_book.specs.Journals.{FitsAfter, end_after}
+use Rattle.svc_shared.specs.BookData.{BookData}
+use Rattle.svc_shared.specs.Journals.{FitsAfter, end_after}
 use Rattle.svc_shared.specs.Views.{Begins}
 use Rattle.svc_desk.specs.declared.stray.Strayed.{Strayed}
 use Rattle.svc_desk.specs.declared.worker.WorkEnd.{WorkEnd}

@@ -6,7 +6,7 @@ use Rattle.svc_record.specs.declared.event.Event.{Event}
 use Rattle.svc_record.specs.declared.action.StepEnd.{StepEnd}
 use Rattle.svc_record.specs.declared.action.StepEnd.TheVariants.{On}
 use Rattle.svc_record.specs.Journal.{PostData}
-use Rattle.svc_book.specs.Journals.{end_after}
+use Rattle.svc_shared.specs.Journals.{end_after}
 use Rattle.svc_shared.specs.declared.pass.Pass.{Pass}
 use Rattle.svc_shared.specs.declared.pass.SharedServer.{SharedServer}
 use Rattle.svc_shared.specs.declared.refusals.PostReason.{PostReason}

@@ -4,8 +4,8 @@ use Rattle.std.specs.Prelude.{slice_get, ◌↔◌}
 use Rattle.svc_record.specs.declared.plan.Plan.{Plan}
 use Rattle.svc_record.specs.declared.action.StepEnd.TheVariants.{Served}
 use Rattle.svc_record.specs.Journal.{PostData}
-use Rattle.svc_book.specs.BookData.{BookData}
-use Rattle.svc_book.specs.Journals.{IsLegal, end_after}
+use Rattle.svc_shared.specs.BookData.{BookData}
+use Rattle.svc_shared.specs.Journals.{IsLegal, end_after}
 use Rattle.svc_desk.specs.Desks.{DeskData}
 use Rattle.svc_desk.specs.Serving.{DeskEnd, IsServed}
 use Rattle.svc_echo.specs.Endings.{stops, ends_with_stop}

@@ -5,7 +5,7 @@ use Rattle.svc_base.specs.Streams.{Rose}
 use Rattle.svc_record.specs.declared.plan.Plan.{Plan}
 use Rattle.svc_record.specs.declared.action.StepEnd.TheVariants.{Served}
 use Rattle.svc_record.specs.Journal.{PostData}
-use Rattle.svc_book.specs.Journals.{end_after}
+use Rattle.svc_shared.specs.Journals.{end_after}
 use Rattle.svc_desk.specs.Desks.{DeskData}
 use Rattle.svc_desk.specs.Serving.{DeskEnd, IsServed}
 use Rattle.svc_echo.specs.Words.{turns_of}

@@ -12,7 +12,7 @@ use std::marker::Brand;
 use std::mem;
 use std::sync::ledger::{Blank, Ledger};
 use svc_base::Text;
-use svc_steps::Steps;
+use svc_history::Steps;
 
 /// Where an address stands among others that ascend, or where it would stand.
 #[derive(Clone, Copy)]

@@ -17,4 +17,4 @@ pub use gate::Gate;
 pub use program::serve_gate;
 pub use reading::{GateError, read_rules};
 pub use rules::{GateRule, GateRuleList, GateRules};
-pub use svc_steps::Steps;
+pub use svc_history::Steps;

@@ -17,4 +17,4 @@ pub use graph::{
 };
 pub use handles::ServiceHandle;
 pub use plan::{ADDRESS_LIMIT, ENDPOINT_LIMIT, EndpointList, EndpointPlan, Kind};
-pub use svc_steps::Steps;
+pub use svc_history::Steps;

@@ -1,8 +1,12 @@
-//! A history that contracts read as a list, and that takes no memory.
+//! What contracts see and the program doesn't keep: a history as a list, and how many steps were taken.
 #![tactic(auto)]
 
 ghost use Rattle.std.specs.Prelude.{◌≡◌, [], ◌∷◌};
 ghost use Rattle.svc_history.specs.Entries.{entries};
+
+mod steps;
+
+pub use steps::Steps;
 
 use std::marker::Model;
 use std::snapshot::Snapshot;

@@ -1,2 +1,4 @@
 -- Definitions that the contracts cite.
 pub mod Least
+pub mod Limits
+pub mod Parents

@@ -1,8 +1,14 @@
-//! The least moment at which something is due, in milliseconds.
+//! Moments in milliseconds: the least at which something is due, a limit of time, and how long the parent of a daemon waits.
 #![tactic(auto)]
 
 ghost use Rattle.std.specs.Prelude.{ℕ, true, ◌≡◌, ◌||◌, ◌-◌, ◌/◌, nat_le, nat_lt};
 ghost use Rattle.svc_moments.specs.Least.{IsLeast, EndsAt, is_before, earlier_of};
+
+mod limit;
+mod parent;
+
+pub use limit::has_passed;
+pub use parent::{ParentEvent, ParentNext, ParentWait};
 
 /// The least moment that is so long after the other one, in milliseconds; none where that is beyond 64
 /// bits. Where nothing is waited for, it is 0.

@@ -1,6 +1,6 @@
 -- The tries to notify a parent, one after the other.
 use Rattle.std.proofs.Common.{◌≡◌, ℕ, ◌+◌, ◌*◌, ◌≤◌, [], ◌∷◌}
-use Rattle.svc_parent.specs.Limits.{Limit}
+use Rattle.svc_moments.specs.Limits.{Limit}
 use Rattle.svc_proc.specs.ProcessData.{ProcessData, Asks}
 use Rattle.svc_proc.specs.declared.process.ProcessCall.TheVariants.{Notify, Rest}
 use Rattle.svc_proc.specs.declared.process.SignalAnswer.TheVariants as answers

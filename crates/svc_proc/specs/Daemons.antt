@@ -3,7 +3,7 @@ use Rattle.std.specs.Prelude.{ℕ, ◌≤◌, Bool, true, false, if◌then◌els
 use Rattle.svc_base.specs.Calls.{Adds, Stays}
 use Rattle.svc_conf.specs.declared.server.configuration.ServerConf.{ServerConf}
 use Rattle.svc_proc.specs.ProcessData.{ProcessData, ForkFaults}
-use Rattle.svc_parent.specs.Limits.{Limit}
+use Rattle.svc_moments.specs.Limits.{Limit}
 use Rattle.svc_proc.specs.declared.process.ProcessCall.{ProcessCall}
 use Rattle.svc_proc.specs.declared.process.ProcessCall.TheVariants.{Exists, Rename, Fork}
 use Rattle.svc_proc.specs.declared.process.ForkAnswer.{ForkAnswer}

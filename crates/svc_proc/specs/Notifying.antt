@@ -1,6 +1,6 @@
 -- How a daemon tells its parent that it is ready.
 use Rattle.std.specs.Prelude.{◌≡◌, ℕ, zero, suc, ◌+◌, ◌*◌, ◌≤◌, false, true, List, [], ◌∷◌, ◌++◌, length, ◌⊎◌}
-use Rattle.svc_parent.specs.Limits.{Limit, has_passed}
+use Rattle.svc_moments.specs.Limits.{Limit, has_passed}
 use Rattle.svc_proc.specs.ProcessData.{ProcessData, Asks}
 use Rattle.svc_proc.specs.declared.process.ProcessCall.{ProcessCall}
 use Rattle.svc_proc.specs.declared.process.ProcessCall.TheVariants.{Notify, Rest}

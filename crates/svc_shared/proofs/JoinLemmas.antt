@@ -8,7 +8,7 @@ use lib.Seq.{map-set}
 use Rattle.std.proofs.lemmas.Bool.{cases_lt}
 use Rattle.atomic_table.proofs.Lists.{at_set, set_else, at_longer}
 use Rattle.svc_record.specs.Journal.{PostData, own_posts}
-use Rattle.svc_book.specs.BookData.{BookData}
+use Rattle.svc_shared.specs.BookData.{BookData}
 use Rattle.svc_shared.specs.declared.view.SeatView.{SeatView}
 use Rattle.svc_shared.specs.declared.view.Ended.{Ended}
 use Rattle.svc_shared.specs.declared.view.View.{View}

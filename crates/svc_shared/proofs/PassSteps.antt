@@ -7,7 +7,7 @@ use Rattle.std.proofs.lemmas.Bool.{cases_lt, lt-ltb, le-ltb}
 use Rattle.atomic_table.specs.Table.{Step, step, Act, keeps, Valid, stepped, carried_after, Allows, Splits, Joins}
 use Rattle.atomic_table.proofs.Lists.{exchanged, set_else}
 use Rattle.svc_record.specs.Journal.{PostData}
-use Rattle.svc_book.specs.BookData.{BookData}
+use Rattle.svc_shared.specs.BookData.{BookData}
 use Rattle.svc_shared.specs.declared.view.View.{View}
 use Rattle.svc_shared.specs.Views.{Slot, Begins, IsWhole, noted, drew, lower, upper, glued, spent_view, longer, settled}
 use Rattle.svc_shared.specs.Rule.{Role, turn_word, home, Parts, Kept}

@@ -2,11 +2,11 @@
 use Rattle.std.proofs.Common.{◌≡◌, ◌≢◌, ◌⊎◌, inl, inr, ⊎_elim, ℕ, ◌*◌, ◌%◌, ◌≤◌, Bool, List, [], ◌∷◌, ◌++◌, length, sym, ap, ◌∙◌, subst, append_assoc, Some, Result, Ok, Err, IfOk, IfErr}
 use Rattle.svc_base.specs.Items.{list_of}
 use Rattle.svc_record.specs.declared.event.Event.{Event}
-use Rattle.svc_book.specs.declared.book.Refusal.{Refusal}
-use Rattle.svc_book.specs.declared.book.Refusal.TheVariants as Refusals
+use Rattle.svc_shared.specs.declared.book.Refusal.{Refusal}
+use Rattle.svc_shared.specs.declared.book.Refusal.TheVariants as Refusals
 use Rattle.svc_record.specs.Journal.{PostData, post, own_posts}
-use Rattle.svc_book.specs.Journals.{FitsAfter, IsLegal, end_after}
-use Rattle.svc_book.specs.Refusals.{IsDue}
+use Rattle.svc_shared.specs.Journals.{FitsAfter, IsLegal, end_after}
+use Rattle.svc_shared.specs.Refusals.{IsDue}
 use Rattle.svc_shared.specs.declared.view.Note.{Note}
 use Rattle.svc_shared.specs.declared.view.SeatView.{SeatView}
 use Rattle.svc_shared.specs.declared.view.View.{View}

@@ -10,7 +10,7 @@ use Rattle.std.proofs.lemmas.Bool.{lt-ltb, le-ltb}
 use Rattle.std.proofs.lemmas.List.{length-map}
 use Rattle.atomic_table.proofs.Lists.{at_set, set_else, at_longer, at_last}
 use Rattle.svc_record.specs.Journal.{PostData, own_posts}
-use Rattle.svc_book.specs.BookData.{BookData}
+use Rattle.svc_shared.specs.BookData.{BookData}
 use Rattle.svc_shared.specs.declared.view.SeatView.{SeatView}
 use Rattle.svc_shared.specs.declared.view.View.{View}
 use Rattle.svc_shared.specs.Views.{hand_of, lower, upper, middle, drawn_or}

@@ -6,7 +6,7 @@ use prog.Atomic.{either}
 use Rattle.atomic_table.specs.Table.{Step, step, Act, keeps, takes, gives, Valid, stepped, carried_after, rest, Allows}
 use Rattle.atomic_table.proofs.Lists.{exchanged}
 use Rattle.svc_record.specs.Journal.{PostData, own_posts}
-use Rattle.svc_book.specs.BookData.{BookData}
+use Rattle.svc_shared.specs.BookData.{BookData}
 use Rattle.svc_shared.specs.declared.view.View.{View}
 use Rattle.svc_shared.specs.Views.{Slot, Mine, Begins, book_of, IsWhole, noted, took, left}
 use Rattle.svc_shared.specs.Rule.{Role, drawn, seated, kept, may_post, turn_word, home, is_holder, Posted, Parts, Kept}

@@ -2,7 +2,7 @@
 use Rattle.std.specs.Prelude.{◌≡◌, ℕ, ◌*◌, Bool, true, List, [], ◌∷◌, ◌++◌, map, length, Option, Some, None}
 use Rattle.svc_record.specs.declared.event.Event.{Event}
 use Rattle.svc_record.specs.Journal.{PostData}
-use Rattle.svc_book.specs.Journals.{FitsAfter}
+use Rattle.svc_shared.specs.Journals.{FitsAfter}
 use Rattle.svc_shared.specs.declared.pass.Pass.{Pass}
 use Rattle.svc_shared.specs.declared.refusals.PostReason.{PostReason}
 use Rattle.svc_shared.specs.declared.refusals.PostReason.TheVariants.{Busy, Full, Stray, NoMemory}

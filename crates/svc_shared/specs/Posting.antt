@@ -4,11 +4,11 @@ use mathlib.Core.Option as maybe
 use lib.ListN.{get_elem?}
 use Rattle.svc_base.specs.Items.{list_of}
 use Rattle.svc_record.specs.declared.event.Event.{Event}
-use Rattle.svc_book.specs.declared.book.Refusal.{Refusal}
-use Rattle.svc_book.specs.declared.book.Refusal.TheVariants as Refusals
+use Rattle.svc_shared.specs.declared.book.Refusal.{Refusal}
+use Rattle.svc_shared.specs.declared.book.Refusal.TheVariants as Refusals
 use Rattle.svc_record.specs.Journal.{PostData, post, own_posts}
-use Rattle.svc_book.specs.BookData.{BookData}
-use Rattle.svc_book.specs.Journals.{FitsAfter, IsLegal, end_after}
+use Rattle.svc_shared.specs.BookData.{BookData}
+use Rattle.svc_shared.specs.Journals.{FitsAfter, IsLegal, end_after}
 use Rattle.svc_shared.specs.declared.view.Note.{Note}
 use Rattle.svc_shared.specs.declared.view.SeatView.{SeatView}
 use Rattle.svc_shared.specs.declared.view.Ended.{Ended}

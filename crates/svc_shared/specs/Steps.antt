@@ -2,7 +2,7 @@
 use Rattle.std.specs.Prelude.{◌≡◌, ◌≢◌, ℕ, ◌*◌, ◌%◌, List, [], ◌∷◌, length, Some, None}
 use Rattle.atomic_table.specs.Table.{Step}
 use Rattle.svc_record.specs.Journal.{PostData, own_posts}
-use Rattle.svc_book.specs.BookData.{BookData}
+use Rattle.svc_shared.specs.BookData.{BookData}
 use Rattle.svc_shared.specs.declared.view.View.{View}
 use Rattle.svc_shared.specs.Views.{Slot, Mine, Begins, book_of, noted, took, left, IsWhole, drew, longer, settled}
 use Rattle.svc_shared.specs.Rule.{IsSeatOf}

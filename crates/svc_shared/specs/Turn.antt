@@ -2,11 +2,11 @@
 use Rattle.std.specs.Prelude.{◌≡◌, ◌≢◌, ◌⊎◌, ℕ, ◌+◌, ◌*◌, ◌%◌, ◌≤◌, true, false, [], ◌∷◌, ◌++◌, length, Some, None}
 use Rattle.svc_record.specs.declared.event.Event.{Event}
 use Rattle.svc_record.specs.declared.action.StepEnd.{StepEnd}
-use Rattle.svc_book.specs.declared.book.Refusal.{Refusal}
+use Rattle.svc_shared.specs.declared.book.Refusal.{Refusal}
 use Rattle.svc_record.specs.Journal.{PostData, own_posts}
-use Rattle.svc_book.specs.BookData.{BookData}
-use Rattle.svc_book.specs.Journals.{IsLegal, end_after}
-use Rattle.svc_book.specs.Refusals.{IsDue}
+use Rattle.svc_shared.specs.BookData.{BookData}
+use Rattle.svc_shared.specs.Journals.{IsLegal, end_after}
+use Rattle.svc_shared.specs.Refusals.{IsDue}
 use Rattle.svc_shared.specs.Views.{Mine, Begins, book_of, noted, took, left, IsWhole}
 
 -- the pass has neither the turn nor the book

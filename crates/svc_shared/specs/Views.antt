@@ -2,7 +2,7 @@
 use Rattle.std.specs.Prelude.{◌≡◌, ℕ, ◌+◌, ◌-◌, ◌/◌, ltb, true, false, List, [], ◌∷◌, ◌++◌, length, if◌then◌else◌, Option, Some, None}
 use Rattle.atomic_table.specs.Table.{Me}
 use Rattle.svc_record.specs.Journal.{PostData, own_posts}
-use Rattle.svc_book.specs.BookData.{BookData}
+use Rattle.svc_shared.specs.BookData.{BookData}
 use Rattle.svc_shared.specs.declared.view.Note.{Note}
 use Rattle.svc_shared.specs.declared.view.Ended.{Ended}
 use Rattle.svc_shared.specs.declared.view.SeatView.{SeatView}

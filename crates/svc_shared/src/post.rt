@@ -11,7 +11,7 @@ use crate::view::Place;
 use std::alloc::Global;
 use std::sync::Wait;
 use std::thread;
-use svc_book::{Answer, BookRefused, Refusal};
+use crate::book::{Answer, BookRefused, Refusal};
 use svc_record::Event;
 
 fn reason_of(refusal: Refusal) -> PostReason

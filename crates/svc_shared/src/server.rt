@@ -2,7 +2,7 @@
 ghost use Rattle.std.specs.Prelude.{◌≡◌, ◌≤◌, [], IfOk, IfErr};
 ghost use Rattle.svc_base.specs.Items.{list_of};
 ghost use Rattle.svc_record.specs.Validity.{IsValid};
-ghost use Rattle.svc_book.specs.Journals.{IsLegal};
+ghost use Rattle.svc_shared.specs.Journals.{IsLegal};
 ghost use Rattle.svc_shared.specs.Views.{first_view, IsWhole};
 ghost use Rattle.svc_shared.specs.Posting.{IsOf, IsClosed, IsUnclosed, origin_of, view_of, hand_in};
 
@@ -13,7 +13,8 @@ use std::alloc::Global;
 use std::mem::drop;
 use std::snapshot::Snapshot;
 use svc_base::NoMemory;
-use svc_book::{Book, Post};
+use crate::book::Book;
+use crate::journal::Post;
 use svc_record::{Actions, Plan};
 
 impl SharedServer {

@@ -10,7 +10,7 @@ use crate::plays::{AcquireTurn, LoadTurn, ReleaseTurn};
 use crate::view::{Board, Place};
 use std::alloc::Global;
 use std::mem::drop;
-use svc_book::{Answer, Book, BookRefused};
+use crate::book::{Answer, Book, BookRefused};
 use svc_record::Event;
 
 impl SharedServer {

@@ -20,7 +20,7 @@ use std::collections::BTreeSet;
 use std::marker::Model;
 use std::sync::ledger::Ledger;
 use svc_base::{Items, NoMemory, Text};
-use svc_steps::Steps;
+use svc_history::Steps;
 
 /// Numbers of descriptors.
 pub type FdList = Items<u64>;

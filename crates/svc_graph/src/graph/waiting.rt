@@ -14,7 +14,7 @@ use std::alloc::Global;
 use std::marker::Model;
 use std::sync::ledger::Ledger;
 use svc_base::NoMemory;
-use svc_steps::Steps;
+use svc_history::Steps;
 
 /// A graph's edges and a set of its nodes, those that are marked. It counts for each node how many of
 /// its dependencies aren't marked.

@@ -12,7 +12,7 @@ use thiserror::Error;
 mod notify;
 
 pub use notify::{Notified, NotifyNext, NotifyRetry, notify_parent_ready_for_fds};
-pub use svc_parent::{ParentEvent, ParentNext, ParentWait};
+pub use svc_moments::{ParentEvent, ParentNext, ParentWait};
 
 /// How many seconds a parent waits where nothing sets it.
 const DEFAULT_DAEMON_READY_TIMEOUT: u64 = 600;

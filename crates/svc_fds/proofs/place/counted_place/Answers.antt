@@ -2,7 +2,7 @@ use Rattle.std.proofs.Common.{◌≡◌, ◌+◌, ◌-◌, ◌/◌, length, add-
 use Rattle.std.specs.Ordering.{nat_cmp}
 use Rattle.std.specs.declared.cmp.Ordering.TheVariants.{Less, Greater}
 use Rattle.std.specs.Cmp.Lexicographic.{slice_cmp}
-use Rattle.svc_steps.proofs.Halving.{one_step}
+use Rattle.svc_history.proofs.Halving.{one_step}
 use Rattle.svc_fds.specs.Tables.{Entry}
 use Rattle.svc_fds.proofs.PlaceLemmas.{all_precede-to, precedes_all-from, held-found, free-found}
 use Rattle.svc_fds.proofs.place.counted_place.Goals as goal

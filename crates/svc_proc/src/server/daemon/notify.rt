@@ -4,7 +4,7 @@ ghost use Rattle.svc_proc.specs.Notifying.{Notifies};
 
 use crate::process::{Process, SignalAnswer};
 use std::marker::Model;
-use svc_parent::has_passed;
+use svc_moments::has_passed;
 
 /// How long a daemon rests, in milliseconds, before it tries again to notify its parent.
 const NOTIFY_RETRY_INTERVAL: u64 = 100;
@@ -39,7 +39,7 @@ pub struct NotifyRetry {
 }
 
 impl Model for NotifyRetry {
-    ghost use Rattle.svc_parent.specs.Limits.{Limit};
+    ghost use Rattle.svc_moments.specs.Limits.{Limit};
 
     ghost Value = { Limit };
 
@@ -48,7 +48,7 @@ impl Model for NotifyRetry {
 
 impl NotifyRetry {
     ghost use Rattle.std.specs.Prelude.{◌≡◌, not};
-    ghost use Rattle.svc_parent.specs.Limits.{has_passed};
+    ghost use Rattle.svc_moments.specs.Limits.{has_passed};
     ghost use Rattle.svc_proc.specs.Notifying.{notify_next};
 
     /// Tries of so many seconds from the moment `start` on, which is in milliseconds.

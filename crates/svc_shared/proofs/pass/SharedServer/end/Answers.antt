@@ -1,7 +1,7 @@
 use Rattle.std.proofs.Common.{◌≡◌, List, ◌∙◌, ap, sym, subst}
 use Rattle.svc_record.specs.Journal.{PostData}
-use Rattle.svc_book.specs.BookData.{BookData}
-use Rattle.svc_book.specs.Journals.{IsLegal}
+use Rattle.svc_shared.specs.BookData.{BookData}
+use Rattle.svc_shared.specs.Journals.{IsLegal}
 use Rattle.svc_shared.specs.Views.{book_of}
 use Rattle.svc_shared.specs.Posting.{IsClosed}
 use Rattle.svc_shared.proofs.EndLemmas.{IsEnd, closes, in-slot, not-empty}

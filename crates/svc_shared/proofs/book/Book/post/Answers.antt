@@ -1,9 +1,9 @@
 use Rattle.std.proofs.Common.{◌≤◌, ◌++◌, [], ◌∷◌, List, length, ap, ◌∙◌, arith}
 use Rattle.svc_base.specs.Items.{list_of}
 use Rattle.svc_record.specs.Journal.{PostData, post}
-use Rattle.svc_book.proofs.Recording.{Grows, grows}
-use Rattle.svc_book.proofs.book.Book.post.Goals as goal
-use Rattle.svc_book.proofs.book.Book.post.Goals.{After-len-2}
+use Rattle.svc_shared.proofs.Recording.{Grows, grows}
+use Rattle.svc_shared.proofs.book.Book.post.Goals as goal
+use Rattle.svc_shared.proofs.book.Book.post.Goals.{After-len-2}
 
 all : (c : After-len-2) → Grows c.step_twice.new.self (list_of c.self.inside.opening) c.self.inside.limit c.push_reserved.new.self.items c.in-Ok-step_twice.end
 all c =

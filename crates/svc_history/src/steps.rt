@@ -1,6 +1,5 @@
 //! Steps that are counted, at no cost: contracts say how many a call takes, and nothing counts when
 //! the program runs.
-#![tactic(auto)]
 
 ghost use Rattle.std.specs.Prelude.{◌≡◌, ◌+◌, ◌<◌};
 

@@ -33,7 +33,7 @@ pub struct ParentWait {
 }
 
 impl Model for ParentWait {
-    ghost use Rattle.svc_parent.specs.Limits.{Limit};
+    ghost use Rattle.svc_moments.specs.Limits.{Limit};
 
     ghost Value = { Limit };
 
@@ -42,7 +42,7 @@ impl Model for ParentWait {
 
 impl ParentWait {
     ghost use Rattle.std.specs.Prelude.{◌≡◌};
-    ghost use Rattle.svc_parent.specs.Parents.{parent_next};
+    ghost use Rattle.svc_moments.specs.Parents.{parent_next};
 
     /// A wait of so many seconds from the moment `start` on, which is in milliseconds.
     pub fn new(limit_seconds: u64, start: u64) -> Self

@@ -3,8 +3,8 @@ ghost use Rattle.std.specs.Prelude.{◌≡◌, ◌<◌, ◌≤◌, ◌^◌, [], 
 ghost use Rattle.svc_base.specs.Items.{list_of};
 ghost use Rattle.svc_record.specs.Validity.{IsValid};
 ghost use Rattle.svc_record.specs.Journal.{post};
-ghost use Rattle.svc_book.specs.Journals.{IsLegal, end_after};
-ghost use Rattle.svc_book.specs.Refusals.{IsDue};
+ghost use Rattle.svc_shared.specs.Journals.{IsLegal, end_after};
+ghost use Rattle.svc_shared.specs.Refusals.{IsDue};
 
 use crate::post::Post;
 use crate::told::{copies, take_actions};
@@ -30,8 +30,8 @@ pub struct Book {
 impl Model for Book {
     ghost use Rattle.std.specs.Prelude.{◌≡◌, ◌≤◌, ◌<◌, ◌^◌, [], length};
     ghost use Rattle.svc_base.specs.Items.{list_of};
-    ghost use Rattle.svc_book.specs.BookData.{BookData, book};
-    ghost use Rattle.svc_book.specs.Journals.{record_of, IsLegal};
+    ghost use Rattle.svc_shared.specs.BookData.{BookData, book};
+    ghost use Rattle.svc_shared.specs.Journals.{record_of, IsLegal};
     ghost use Rattle.svc_core.specs.Stands.{Represents};
 
     ghost Value = { BookData };

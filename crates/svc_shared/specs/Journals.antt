@@ -6,7 +6,7 @@ use Rattle.svc_record.specs.Record.{Record}
 use Rattle.svc_record.specs.Fits.{Fits}
 use Rattle.svc_record.specs.Ends.{step_end}
 use Rattle.svc_record.specs.Journal.{PostData, Legal, journal_record}
-use Rattle.svc_book.specs.BookData.{BookData}
+use Rattle.svc_shared.specs.BookData.{BookData}
 
 -- the record that these posts make after the book's opening
 abbrev pub record_of : BookData → List PostData → Record

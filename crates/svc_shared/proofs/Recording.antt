@@ -13,8 +13,8 @@ use Rattle.svc_record.specs.Judging.{judged_at, judgements, TellsJudged}
 use Rattle.svc_core.specs.CoreData.{CoreData}
 use Rattle.svc_core.specs.Stands.{Represents, StepKeeps}
 use Rattle.svc_core.proofs.JudgedLemmas.{judged-said}
-use Rattle.svc_book.specs.BookData.{book}
-use Rattle.svc_book.specs.Journals.{record_of, IsLegal, end_after}
+use Rattle.svc_shared.specs.BookData.{book}
+use Rattle.svc_shared.specs.Journals.{record_of, IsLegal, end_after}
 
 record-more : (q : Record) (ps : List PostData) (p : PostData) → record_after q (ps ++ p ∷ []) ≡ tell (Got p.event ∷ record_after q ps) p.actions
 record-more q [] p = refl

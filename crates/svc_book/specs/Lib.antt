@@ -1,3 +1,0 @@
-pub mod BookData
-pub mod Journals
-pub mod Refusals
