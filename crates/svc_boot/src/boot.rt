@@ -21,8 +21,7 @@ use crate::fork::Fork;
 use crate::receiving::Receiving;
 use std::marker::Model;
 use svc_fds::{ReceiveKind, ReceiveNext, ReceiveRetry};
-use svc_moments::{after, after_seconds};
-use svc_moments::{ParentEvent, ParentNext, ParentWait};
+use svc_moments::{ParentEvent, ParentNext, ParentWait, after, after_seconds};
 use svc_record::{Action, Actions, BootstrapError, ExecutionPhase, Plan, Side, StepEnd};
 
 /// How long nothing is tried after a try that met no sender, in milliseconds.

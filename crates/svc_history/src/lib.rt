@@ -6,10 +6,9 @@ ghost use Rattle.svc_history.specs.Entries.{entries};
 
 mod steps;
 
-pub use steps::Steps;
-
 use std::marker::Model;
 use std::snapshot::Snapshot;
+pub use steps::Steps;
 
 /// What came so far, the newest first: contracts see a list, and the program keeps nothing.
 #[cycle(history)]

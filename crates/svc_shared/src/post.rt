@@ -5,13 +5,13 @@ ghost use Rattle.svc_record.specs.Journal.{post};
 ghost use Rattle.svc_shared.specs.Turn.{IsIdle, HasTurn, TookLater, LeftWith};
 ghost use Rattle.svc_shared.specs.Posting.{IsOf, IsPosted, IsRefused, IsBusy, never, reason_is, LeftFor, hand_in};
 
+use crate::book::{Answer, BookRefused, Refusal};
 use crate::pass::{Pass, Posted, ShareState, SharedServer};
 use crate::refusals::{PostReason, PostRefused};
 use crate::view::Place;
 use std::alloc::Global;
 use std::sync::Wait;
 use std::thread;
-use crate::book::{Answer, BookRefused, Refusal};
 use svc_record::Event;
 
 fn reason_of(refusal: Refusal) -> PostReason

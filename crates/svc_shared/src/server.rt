@@ -6,6 +6,8 @@ ghost use Rattle.svc_shared.specs.Journals.{IsLegal};
 ghost use Rattle.svc_shared.specs.Views.{first_view, IsWhole};
 ghost use Rattle.svc_shared.specs.Posting.{IsOf, IsClosed, IsUnclosed, origin_of, view_of, hand_in};
 
+use crate::book::Book;
+use crate::journal::Post;
 use crate::pass::{Pass, ShareState, SharedServer};
 use crate::refusals::CloseRefused;
 use atomic_table::Table;
@@ -13,8 +15,6 @@ use std::alloc::Global;
 use std::mem::drop;
 use std::snapshot::Snapshot;
 use svc_base::NoMemory;
-use crate::book::Book;
-use crate::journal::Post;
 use svc_record::{Actions, Plan};
 
 impl SharedServer {

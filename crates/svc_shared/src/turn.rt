@@ -5,12 +5,12 @@ ghost use Rattle.svc_base.specs.Items.{list_of};
 ghost use Rattle.svc_shared.specs.Views.{book_of, left};
 ghost use Rattle.svc_shared.specs.Turn.{IsIdle, HasTurn, Lifted, GivesBack, Took, Lost, LeftWith, LeftWithout};
 
+use crate::book::{Answer, Book, BookRefused};
 use crate::pass::SharedServer;
 use crate::plays::{AcquireTurn, LoadTurn, ReleaseTurn};
 use crate::view::{Board, Place};
 use std::alloc::Global;
 use std::mem::drop;
-use crate::book::{Answer, Book, BookRefused};
 use svc_record::Event;
 
 impl SharedServer {
