@@ -13,14 +13,14 @@ use Rattle.svc_boot.specs.declared.fork.Fork.{Fork}
 use Rattle.svc_boot.specs.declared.receiving.Receiving.{Receiving}
 use Rattle.svc_boot.specs.declared.receiving.Receiving.TheVariants.{Unasked, Trying, Missed, Came, Refused}
 use Rattle.svc_boot.specs.BootData.{BootData}
-use Rattle.svc_boot.specs.ForkState.{ForkStands, is_free}
+use Rattle.svc_boot.specs.ForkState.{ForkStands, may_run}
 use Rattle.svc_boot.specs.BootState.{BootStands, BootKept, ReceivingStands, count_of, is_tried, has_come, notifies}
 use Rattle.svc_boot.specs.BootEffects.{notify_told, receive_told, begin_more, begun_with, begun_by, begin_told}
 use Rattle.svc_boot.proofs.ForkLemmas.{fork-told}
 
 -- a part with these fields
 abbrev pub part : Fork → ℕ → Bool → Bool → Receiving → BootData
-part f n begun complete x = record { fork = f; begun = begun; complete = complete; receiving = x; patience = n }
+part f n begun complete x = record { fork = f; begun = begun; complete = complete; receiving = x; retries = n }
 
 -- one that hasn't begun
 abbrev pub fresh : Fork → ℕ → BootData
@@ -28,14 +28,14 @@ fresh f n = part f n false false Unasked
 
 -- between the phase `Bootstrap` and what follows it; the parent was notified or not
 record Midway (p : Plan) (f : Fork) (n : ℕ) (notified : Bool) (q : Record) : Type 0 where
-  free : is_free p f ≡ true
+  free : may_run p f ≡ true
   begun_is : has is_bootstrap q ≡ true
   begun_times : times is_bootstrap q ≡ 1
   complete_is : has is_bootstrap_complete q ≡ false
   complete_times : times is_bootstrap_complete q ≡ 0
   receiving : ReceivingStands Unasked q
   missing_is : ends_no_sender p q ≡ false
-  patience_is : n ≡ p.limit - times is_no_sender q
+  retries_is : n ≡ p.limit - times is_no_sender q
   notified_times : times is_notify q ≡ count_of notified
   fork : ForkStands p f q
   boots_due : EachEntry (λ e before. boot_due p e before ≡ true) q
@@ -55,7 +55,7 @@ untold-receiving q m x = record {
 }
 
 -- the phase is told
-phase-told : (p : Plan) (f : Fork) (n : ℕ) (q : Record) (m : ℕ) → is_free p f ≡ true → BootStands p (fresh f n) q
+phase-told : (p : Plan) (f : Fork) (n : ℕ) (q : Record) (m : ℕ) → may_run p f ≡ true → BootStands p (fresh f n) q
     → Midway p f n false (Told (Phase Bootstrap m) ∷ q)
 phase-told p f n q m free stand = let b = stand.begin in record {
   free = free;
@@ -65,7 +65,7 @@ phase-told p f n q m free stand = let b = stand.begin in record {
   complete_times = b.complete_times;
   receiving = untold-receiving q m stand.receiving;
   missing_is = stand.missing_is;
-  patience_is = stand.patience_is;
+  retries_is = stand.retries_is;
   notified_times = stand.notified_times;
   fork = fork-told p f q (Phase Bootstrap m) refl free stand.fork;
   boots_due = (refl, stand.boots_due);
@@ -93,7 +93,7 @@ notify-told p f n q true mid = let x = mid.receiving in record {
     failed_is = x.failed_is;
   };
   missing_is = mid.missing_is;
-  patience_is = mid.patience_is;
+  retries_is = mid.retries_is;
   notified_times = ap (λ (k : ℕ). k + 1) mid.notified_times;
   fork = fork-told p f q NotifyParent refl mid.free mid.fork;
   boots_due = (mid.begun_is, mid.boots_due);
@@ -133,7 +133,7 @@ opened-stands p f n q notify m goes is upgrade mid = let x = mid.receiving in re
     failed_is = x.failed_is;
   };
   missing_is = mid.missing_is;
-  patience_is = mid.patience_is;
+  retries_is = mid.retries_is;
   notified_times = notified-is p notify (times is_notify q) goes is mid.notified_times;
   fork = fork-told p f (Told OpenReceiver ∷ q) TryReceive refl mid.free (fork-told p f q OpenReceiver refl mid.free mid.fork);
   boots_due = (mid.begun_is, (mid.begun_is, mid.boots_due));
@@ -169,7 +169,7 @@ alone-stands p f n q notify m goes is upgrade mid = let x = mid.receiving in rec
     failed_is = x.failed_is;
   };
   missing_is = mid.missing_is;
-  patience_is = mid.patience_is;
+  retries_is = mid.retries_is;
   notified_times = notified-is p notify (times is_notify q) goes is mid.notified_times;
   fork = fork-told p f q (Phase BootstrapComplete m) refl mid.free mid.fork;
   boots_due = (mid.begun_is, mid.boots_due);
@@ -197,7 +197,7 @@ tested-stands p f n q upgrade tests mid = let x = mid.receiving in record {
   begin = record { begun_is = mid.begun_is; begun_times = mid.begun_times; complete_is = mid.complete_is; complete_times = mid.complete_times };
   receiving = mid.receiving;
   missing_is = mid.missing_is;
-  patience_is = mid.patience_is;
+  retries_is = mid.retries_is;
   notified_times = unnotified p.test (notifies p) (times is_notify q) tests mid.notified_times;
   fork = mid.fork;
   boots_due = mid.boots_due;
@@ -230,25 +230,25 @@ as-part : (f : Fork) (n : ℕ) (begun complete : Bool) (x : Receiving) → begun
     → part f n begun complete x ≡ fresh f n
 as-part f n begun complete x b c r = ap (λ v. part f n v complete x) b ∙ ap (λ v. part f n false v x) c ∙ ap (λ v. part f n false false v) r
 
-pub as-fresh : (p : Plan) (d : BootData) → BootKept p d → d.begun ≡ false → d ≡ fresh d.fork d.patience
-as-fresh p d kept not_begun = as-part d.fork d.patience d.begun d.complete d.receiving not_begun
+pub as-fresh : (p : Plan) (d : BootData) → BootKept p d → d.begun ≡ false → d ≡ fresh d.fork d.retries
+as-fresh p d kept not_begun = as-part d.fork d.retries d.begun d.complete d.receiving not_begun
     (untouched d.begun p.test (not p.upgrade || has_come d.receiving) d.complete not_begun kept.through)
     (untried-yet d.begun p.test p.upgrade d.receiving not_begun kept.tried_is)
 
-first-stands : (p : Plan) (d : BootData) (q : Record) (m : ℕ) → d ≡ fresh d.fork d.patience → is_free p d.fork ≡ true → BootStands p d q
+first-stands : (p : Plan) (d : BootData) (q : Record) (m : ℕ) → d ≡ fresh d.fork d.retries → may_run p d.fork ≡ true → BootStands p d q
     → BootStands p (begun_with p.test p.upgrade d) (tell q (Phase Bootstrap m ∷ begin_more p.test (notifies p) p.upgrade m))
 first-stands p d q m is free stand =
     subst (λ (x : BootData). BootStands p (begun_with p.test p.upgrade x) (tell q (Phase Bootstrap m ∷ begin_more p.test (notifies p) p.upgrade m))) (sym is)
-    (more-told p d.fork d.patience (Told (Phase Bootstrap m) ∷ q) m p.test (notifies p) p.upgrade refl refl refl
-    (phase-told p d.fork d.patience q m free (subst (λ (x : BootData). BootStands p x q) is stand)))
+    (more-told p d.fork d.retries (Told (Phase Bootstrap m) ∷ q) m p.test (notifies p) p.upgrade refl refl refl
+    (phase-told p d.fork d.retries q m free (subst (λ (x : BootData). BootStands p x q) is stand)))
 
-begin-either : (p : Plan) (d : BootData) (q : Record) (m : ℕ) (begun : Bool) → d.begun ≡ begun → is_free p d.fork ≡ true → BootStands p d q
+begin-either : (p : Plan) (d : BootData) (q : Record) (m : ℕ) (begun : Bool) → d.begun ≡ begun → may_run p d.fork ≡ true → BootStands p d q
     → BootStands p (if begun then d else begun_with p.test p.upgrade d)
     (tell q (if begun then [] else Phase Bootstrap m ∷ begin_more p.test (notifies p) p.upgrade m))
 begin-either p d q m true was free stand = stand
 begin-either p d q m false was free stand = first-stands p d q m (as-fresh p d stand.kept was) free stand
 
 -- a beginning, where the server goes on
-pub stands-begin : (p : Plan) (d : BootData) (q : Record) (m : ℕ) → is_free p d.fork ≡ true → BootStands p d q
+pub stands-begin : (p : Plan) (d : BootData) (q : Record) (m : ℕ) → may_run p d.fork ≡ true → BootStands p d q
     → BootStands p (begun_by p d) (tell q (begin_told p d m))
 stands-begin p d q m free stand = begin-either p d q m d.begun refl free stand

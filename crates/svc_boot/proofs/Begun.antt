@@ -11,11 +11,11 @@ use Rattle.svc_record.specs.Plans.{services, has_kind}
 use Rattle.svc_record.specs.Starts.{is_started}
 use Rattle.svc_record.specs.Boot.{has_begun, may_begin, is_side_child}
 use Rattle.svc_boot.specs.BootData.{BootData}
-use Rattle.svc_boot.specs.ForkState.{is_free}
+use Rattle.svc_boot.specs.ForkState.{may_run}
 use Rattle.svc_boot.specs.BootState.{BootStands}
 
 -- bootstrapping may begin where the server goes on
-pub may_begin-is : (p : Plan) (d : BootData) (q : Record) → BootStands p d q → may_begin p q ≡ is_free p d.fork
+pub may_begin-is : (p : Plan) (d : BootData) (q : Record) → BootStands p d q → may_begin p q ≡ may_run p d.fork
 may_begin-is p d q stand = ap (λ b. not p.daemon || b) stand.fork.child_is
 
 as_child : (eager daemon child started : Bool) → ((eager && (not daemon || true)) || started) ≡ (eager || ((eager && (not daemon || child)) || started))

@@ -21,7 +21,7 @@ use Rattle.svc_boot.specs.declared.fork.Fork.TheVariants.{Unforked, Asked, Child
 use Rattle.svc_boot.specs.declared.receiving.Receiving.{Receiving}
 use Rattle.svc_boot.specs.declared.receiving.Receiving.TheVariants.{Unasked, Trying, Missed, Came, Refused}
 use Rattle.svc_boot.specs.BootData.{BootData}
-use Rattle.svc_boot.specs.ForkState.{is_forked, is_waiting, is_parent, is_parent_over, is_over_well, is_over_badly, status_of, is_free, is_other_told}
+use Rattle.svc_boot.specs.ForkState.{is_forked, is_waiting, is_parent, is_parent_over, is_over_well, is_over_badly, status_of, may_run, is_other_told}
 use Rattle.svc_boot.specs.BootState.{BootStands, count_of, is_tried, is_trying, is_refused, is_transfer, is_missing, is_spoiled, tells_rest, rests_in, is_due_in, is_through, has_notified}
 use Rattle.svc_boot.specs.BootEffects.{end_of, early_end, is_early, is_over}
 use Rattle.svc_boot.specs.BootFacts.{IsBootSettled}
@@ -192,11 +192,11 @@ module _ (p : Plan) (d : BootData) (q : Record) (stand : BootStands p d q) where
   waits-is on = waits-by p.wait d.fork (has is_side_parent q) (has is_child_ready q) on stand.fork.parent_is stand.fork.well_is
 
   -- a server that awaits its fork, or a parent, told nothing but that
-  pub held-is : (test : Entry → Bool) → ((e : Entry) → test e ≡ true → is_other_told e ≡ true) → is_free p d.fork ≡ false → has test q ≡ false
+  pub held-is : (test : Entry → Bool) → ((e : Entry) → test e ≡ true → is_other_told e ≡ true) → may_run p d.fork ≡ false → has test q ≡ false
   held-is test other awaits = none-of test is_other_told other q (stand.fork.held awaits)
 
   -- so it hasn't begun
-  pub unbegun-is : is_free p d.fork ≡ false → d.begun ≡ false
+  pub unbegun-is : may_run p d.fork ≡ false → d.begun ≡ false
   unbegun-is awaits = sym stand.begin.begun_is ∙ held-is is_bootstrap bootstrap-other awaits
 
 -- what is settled goes on

@@ -59,8 +59,8 @@ missed-stands Trying q moment false trying at x = record {
 }
 
 -- one miss too many, by what was borne
-one_too_many : (limit n patience : ℕ) → nat_lt limit n ≡ false → patience ≡ limit - n → nat_lt limit (n + 1) ≡ nat_lt patience 1
-one_too_many limit n patience few is = grind (arith, nat_tests)
+one_too_many : (limit n retries : ℕ) → nat_lt limit n ≡ false → retries ≡ limit - n → nat_lt limit (n + 1) ≡ nat_lt retries 1
+one_too_many limit n retries few is = grind (arith, nat_tests)
 
 missing-if : (last : Bool) (moment : ℕ) → is_missing (if last then Refused NoSender else Missed moment) ≡ last
 missing-if true moment = refl
@@ -93,10 +93,10 @@ through-grows : (begun test upgrade come later : Bool) → ((begun && not test) 
 through-grows begun test upgrade come later h e = grind arith
 
 -- a try that was open was answered
-kept-answered : (p : Plan) (f : Fork) (begun complete : Bool) (patience patience2 : ℕ) (x y : Receiving) → is_trying x ≡ true → is_tried y ≡ true
-    → BootKept p (record { fork = f; begun = begun; complete = complete; receiving = x; patience = patience })
-    → BootKept p (record { fork = f; begun = begun; complete = complete; receiving = y; patience = patience2 })
-kept-answered p f begun complete patience patience2 x y trying tried kept = record {
+kept-answered : (p : Plan) (f : Fork) (begun complete : Bool) (retries retries2 : ℕ) (x y : Receiving) → is_trying x ≡ true → is_tried y ≡ true
+    → BootKept p (record { fork = f; begun = begun; complete = complete; receiving = x; retries = retries })
+    → BootKept p (record { fork = f; begun = begun; complete = complete; receiving = y; retries = retries2 })
+kept-answered p f begun complete retries retries2 x y trying tried kept = record {
   tried_is = tried ∙ sym (tried-trying x trying) ∙ kept.tried_is;
   through = λ h. through-grows begun p.test p.upgrade (has_come x) (has_come y) (kept.through h) (not_come x trying);
   alone = kept.alone;
@@ -109,15 +109,15 @@ tried-missed false moment = refl
 -- an open try met no sender
 pub stands-no_sender : (p : Plan) (d : BootData) (q : Record) (moment : ℕ) → is_trying d.receiving ≡ true → moment ≡ now q → BootStands p d q
     → BootStands p (missed moment d) (Got NoSenderYet ∷ q)
-stands-no_sender p d q moment trying at stand = let b = stand.begin in let last : Bool = nat_lt d.patience 1 in record {
-  kept = kept-answered p d.fork d.begun d.complete d.patience (d.patience - 1) d.receiving (if last then Refused NoSender else Missed moment) trying
+stands-no_sender p d q moment trying at stand = let b = stand.begin in let last : Bool = nat_lt d.retries 1 in record {
+  kept = kept-answered p d.fork d.begun d.complete d.retries (d.retries - 1) d.receiving (if last then Refused NoSender else Missed moment) trying
       (tried-missed last moment) stand.kept;
   begin = record { begun_is = b.begun_is; begun_times = b.begun_times; complete_is = b.complete_is; complete_times = b.complete_times };
   receiving = missed-stands d.receiving q moment last trying at stand.receiving;
   missing_is =
-      one_too_many p.limit (times is_no_sender q) d.patience (stand.missing_is ∙ not_missing d.receiving trying) stand.patience_is
+      one_too_many p.limit (times is_no_sender q) d.retries (stand.missing_is ∙ not_missing d.receiving trying) stand.retries_is
       ∙ sym (missing-if last moment);
-  patience_is = let e = stand.patience_is in omega arith;
+  retries_is = let e = stand.retries_is in omega arith;
   notified_times = stand.notified_times;
   fork = fork-got p d.fork q NoSenderYet refl stand.fork;
   boots_due = (refl, stand.boots_due);
@@ -169,12 +169,12 @@ pub stands-received : (p : Plan) (d : BootData) (q : Record) (bytes fds : List �
     → is_trying d.receiving ≡ true
     → BootStands p d q → BootStands p (received good d) (Got (Received bytes fds) ∷ q)
 stands-received p d q bytes fds good reads trying stand = let b = stand.begin in record {
-  kept = kept-answered p d.fork d.begun d.complete d.patience d.patience d.receiving (if good then Came else Refused BadMessage) trying
+  kept = kept-answered p d.fork d.begun d.complete d.retries d.retries d.receiving (if good then Came else Refused BadMessage) trying
       (tried-received good) stand.kept;
   begin = record { begun_is = b.begun_is; begun_times = b.begun_times; complete_is = b.complete_is; complete_times = b.complete_times };
   receiving = received-stands d.receiving q bytes fds good reads trying stand.receiving;
   missing_is = stand.missing_is ∙ not_missing d.receiving trying ∙ sym (missing-received good);
-  patience_is = stand.patience_is;
+  retries_is = stand.retries_is;
   notified_times = stand.notified_times;
   fork = fork-got p d.fork q (Received bytes fds) refl stand.fork;
   boots_due = (refl, stand.boots_due);
@@ -213,11 +213,11 @@ failed-stands Trying q trying x = record {
 -- it failed
 pub stands-failed : (p : Plan) (d : BootData) (q : Record) → is_trying d.receiving ≡ true → BootStands p d q → BootStands p (failed d) (Got ReceiveFailed ∷ q)
 stands-failed p d q trying stand = let b = stand.begin in record {
-  kept = kept-answered p d.fork d.begun d.complete d.patience d.patience d.receiving (Refused Transfer) trying refl stand.kept;
+  kept = kept-answered p d.fork d.begun d.complete d.retries d.retries d.receiving (Refused Transfer) trying refl stand.kept;
   begin = record { begun_is = b.begun_is; begun_times = b.begun_times; complete_is = b.complete_is; complete_times = b.complete_times };
   receiving = failed-stands d.receiving q trying stand.receiving;
   missing_is = stand.missing_is ∙ not_missing d.receiving trying;
-  patience_is = stand.patience_is;
+  retries_is = stand.retries_is;
   notified_times = stand.notified_times;
   fork = fork-got p d.fork q ReceiveFailed refl stand.fork;
   boots_due = (refl, stand.boots_due);
@@ -241,7 +241,7 @@ stands-new p limit is = record {
     failed_is = refl;
   };
   missing_is = none_below p.limit;
-  patience_is = omega arith;
+  retries_is = omega arith;
   notified_times = refl;
   fork = fork-new p;
   boots_due = tt;
@@ -268,7 +268,7 @@ stands-asked p d daemon stand = let k = stand.kept in let b = stand.begin in let
     failed_is = x.failed_is;
   };
   missing_is = stand.missing_is;
-  patience_is = stand.patience_is;
+  retries_is = stand.retries_is;
   notified_times = stand.notified_times;
   fork = fork-asked p daemon;
   boots_due = (refl, tt);
@@ -296,7 +296,7 @@ stands-forked p d f q e is fork stand = let k = stand.kept in let b = stand.begi
     failed_is = x.failed_is;
   };
   missing_is = stand.missing_is;
-  patience_is = stand.patience_is;
+  retries_is = stand.retries_is;
   notified_times = stand.notified_times;
   fork = fork;
   boots_due = (refl, stand.boots_due);

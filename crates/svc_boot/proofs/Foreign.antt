@@ -11,14 +11,14 @@ use Rattle.svc_record.specs.declared.event.Event.TheVariants.{Moment, Received, 
 use Rattle.svc_record.specs.Record.{Record, tell}
 use Rattle.svc_record.specs.Told.{IsGivingUp}
 use Rattle.svc_boot.specs.BootData.{BootData}
-use Rattle.svc_boot.specs.ForkState.{is_free, is_parent}
+use Rattle.svc_boot.specs.ForkState.{may_run, is_parent}
 use Rattle.svc_boot.specs.BootState.{BootStands}
 use Rattle.svc_boot.specs.BootFacts.{is_boot_action, has_no_boot_action, is_boot_event}
 use Rattle.svc_boot.proofs.ForkLemmas.{fork-told, fork-got, fork-moment}
 use Rattle.svc_base.proofs.Logic.{apart_from as not_true}
 
 -- an action that doesn't belong to the beginning, where the server goes on
-pub stands-told : (p : Plan) (d : BootData) (q : Record) (a : Action) → is_boot_action a ≡ false → is_free p d.fork ≡ true → BootStands p d q
+pub stands-told : (p : Plan) (d : BootData) (q : Record) (a : Action) → is_boot_action a ≡ false → may_run p d.fork ≡ true → BootStands p d q
     → BootStands p d (Told a ∷ q)
 stands-told p d q (Phase Bootstrap ms) other free stand = cc
 stands-told p d q (Phase BootstrapComplete ms) other free stand = cc
@@ -42,7 +42,7 @@ stands-told p d q a other free stand = let b = stand.begin in let x = stand.rece
     failed_is = x.failed_is;
   };
   missing_is = stand.missing_is;
-  patience_is = stand.patience_is;
+  retries_is = stand.retries_is;
   notified_times = stand.notified_times;
   fork = fork-told p d.fork q a refl free stand.fork;
   boots_due = (refl, stand.boots_due);
@@ -50,7 +50,7 @@ stands-told p d q a other free stand = let b = stand.begin in let x = stand.rece
 }
 
 -- the phase `Running`, where it is due and the server goes on
-pub stands-running : (p : Plan) (d : BootData) (q : Record) (ms : ℕ) → (not p.eager || d.complete) ≡ true → is_free p d.fork ≡ true → BootStands p d q
+pub stands-running : (p : Plan) (d : BootData) (q : Record) (ms : ℕ) → (not p.eager || d.complete) ≡ true → may_run p d.fork ≡ true → BootStands p d q
     → BootStands p d (Told (Phase Running ms) ∷ q)
 stands-running p d q ms due free stand = let b = stand.begin in let x = stand.receiving in record {
   kept = stand.kept;
@@ -67,7 +67,7 @@ stands-running p d q ms due free stand = let b = stand.begin in let x = stand.re
     failed_is = x.failed_is;
   };
   missing_is = stand.missing_is;
-  patience_is = stand.patience_is;
+  retries_is = stand.retries_is;
   notified_times = stand.notified_times;
   fork = fork-told p d.fork q (Phase Running ms) refl free stand.fork;
   boots_due = (rw b.complete_is due, stand.boots_due);
@@ -99,7 +99,7 @@ stands-got p d q e other stand = let b = stand.begin in let x = stand.receiving 
     failed_is = x.failed_is;
   };
   missing_is = stand.missing_is;
-  patience_is = stand.patience_is;
+  retries_is = stand.retries_is;
   notified_times = stand.notified_times;
   fork = fork-got p d.fork q e refl stand.fork;
   boots_due = (refl, stand.boots_due);
@@ -123,7 +123,7 @@ stands-moment p d q ms none stand = let b = stand.begin in let x = stand.receivi
     failed_is = x.failed_is;
   };
   missing_is = stand.missing_is;
-  patience_is = stand.patience_is;
+  retries_is = stand.retries_is;
   notified_times = stand.notified_times;
   fork = fork-moment p d.fork q ms none stand.fork;
   boots_due = (refl, stand.boots_due);
@@ -131,7 +131,7 @@ stands-moment p d q ms none stand = let b = stand.begin in let x = stand.receivi
 }
 
 -- a told list in which nothing belongs to the beginning, where the server goes on
-pub stands-tell : (p : Plan) (d : BootData) (q : Record) (told : List Action) → has_no_boot_action told ≡ true → is_free p d.fork ≡ true → BootStands p d q
+pub stands-tell : (p : Plan) (d : BootData) (q : Record) (told : List Action) → has_no_boot_action told ≡ true → may_run p d.fork ≡ true → BootStands p d q
     → BootStands p d (tell q told)
 stands-tell p d q [] other free stand = stand
 stands-tell p d q (a ∷ told) other free stand =

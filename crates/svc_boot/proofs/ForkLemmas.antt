@@ -16,7 +16,7 @@ use Rattle.svc_record.specs.Boot.{is_side_parent}
 use Rattle.svc_record.specs.Ends.{is_child_ready, is_parent_failure, parent_moment, parent_waited}
 use Rattle.svc_boot.specs.declared.fork.Fork.{Fork}
 use Rattle.svc_boot.specs.declared.fork.Fork.TheVariants.{Unforked, Asked, Child, Waiting, Over}
-use Rattle.svc_boot.specs.ForkState.{ForkStands, is_asked, is_child, is_waiting, is_parent, is_parent_over, is_free}
+use Rattle.svc_boot.specs.ForkState.{ForkStands, is_asked, is_child, is_waiting, is_parent, is_parent_over, may_run}
 use Rattle.svc_boot.specs.BootEffects.{side_taken, waited}
 use Rattle.svc_boot.specs.BootFacts.{is_fork_event}
 
@@ -72,7 +72,7 @@ fork-asked p daemon = record {
     asks false = refl
 
 -- something else is told, where the server goes on
-pub fork-told : (p : Plan) (f : Fork) (q : Record) (a : Action) → is_daemonize (Told a) ≡ false → is_free p f ≡ true → ForkStands p f q
+pub fork-told : (p : Plan) (f : Fork) (q : Record) (a : Action) → is_daemonize (Told a) ≡ false → may_run p f ≡ true → ForkStands p f q
     → ForkStands p f (Told a ∷ q)
 fork-told p f q Daemonize other free s = cc
 fork-told p f q a other free s = record {
@@ -87,7 +87,7 @@ fork-told p f q a other free s = record {
   unready = s.unready;
   unfailed = s.unfailed;
   daemon_is = s.daemon_is;
-  held = λ h. not_both (is_free p f) free h;
+  held = λ h. not_both (may_run p f) free h;
   first = (refl, s.first);
   fork_first = (goes_on p.daemon (is_child f) _ s.child_is free, s.fork_first);
 }

@@ -21,7 +21,7 @@ use Rattle.svc_record.specs.Closes.{is_broadcast, is_loop_end, have_loops_ended}
 use Rattle.svc_record.specs.Connections.{is_arrival, is_serve, is_live_connection}
 use Rattle.svc_record.specs.Fits.{is_new, are_new, may_end, accepts, fits_row}
 use Rattle.svc_boot.specs.BootData.{BootData}
-use Rattle.svc_boot.specs.ForkState.{is_forked, is_parent_over, is_free, is_other_told}
+use Rattle.svc_boot.specs.ForkState.{is_forked, is_parent_over, may_run, is_other_told}
 use Rattle.svc_boot.specs.BootState.{BootStands}
 use Rattle.svc_boot.specs.BootEffects.{end_of, early_end}
 use Rattle.svc_boot.specs.BootFacts.{IsBootSettled, is_fork_event}
@@ -30,8 +30,8 @@ use Rattle.svc_boot.proofs.BeginLemmas.{fresh, as-fresh}
 
 -- where the test passes an entry that tells something else than the fork, and passes some entry, the server goes on
 pub told-free : (p : Plan) (d : BootData) (q : Record) (test : Entry → Bool) → BootStands p d q → ((e : Entry) → test e ≡ true → is_other_told e ≡ true)
-    → has test q ≡ true → is_free p d.fork ≡ true
-told-free p d q test stand other told = elim (cases_Bool (is_free p d.fork)) [
+    → has test q ≡ true → may_run p d.fork ≡ true
+told-free p d q test stand other told = elim (cases_Bool (may_run p d.fork)) [
   | inl free ↦ free
   | inr awaits ↦ absurd (let none = held-is p d q stand test other awaits in cc)
 ]
@@ -104,34 +104,34 @@ running-other (Got e) h = cc
 
 -- an event that isn't of the fork fits only where the server goes on
 module _ (p : Plan) (d : BootData) (q : Record) (stand : BootStands p d q) where
-  started-free : (s : ℕ) → is_started q s ≡ true → is_free p d.fork ≡ true
+  started-free : (s : ℕ) → is_started q s ≡ true → may_run p d.fork ≡ true
   started-free s started = told-free p d q (is_start s) stand (start-other s) started
 
-  bind-free : (s i : ℕ) → is_bind_open q s i ≡ true → is_free p d.fork ≡ true
+  bind-free : (s i : ℕ) → is_bind_open q s i ≡ true → may_run p d.fork ≡ true
   bind-free s i asked = told-free p d q (is_bind s i) stand (bind-other s i) (open-told (is_bind s i) (is_bind_answer s i) q asked)
 
-  adopt-free : (s i : ℕ) → is_adopt_open q s i ≡ true → is_free p d.fork ≡ true
+  adopt-free : (s i : ℕ) → is_adopt_open q s i ≡ true → may_run p d.fork ≡ true
   adopt-free s i asked = told-free p d q (is_adopt s i) stand (adopt-other s i) (open-told (is_adopt s i) (is_adopt_answer s i) q asked)
 
-  try-free : is_try_open q ≡ true → is_free p d.fork ≡ true
+  try-free : is_try_open q ≡ true → may_run p d.fork ≡ true
   try-free asked = told-free p d q is_try stand try-other (open-told is_try is_try_answer q asked)
 
-  connect-free : is_open is_connect is_connect_answer q ≡ true → is_free p d.fork ≡ true
+  connect-free : is_open is_connect is_connect_answer q ≡ true → may_run p d.fork ≡ true
   connect-free asked = told-free p d q is_connect stand connect-other (open-told is_connect is_connect_answer q asked)
 
-  send-free : is_open is_send is_send_answer q ≡ true → is_free p d.fork ≡ true
+  send-free : is_open is_send is_send_answer q ≡ true → may_run p d.fork ≡ true
   send-free asked = told-free p d q is_send stand send-other (open-told is_send is_send_answer q asked)
 
-  serves-free : (s : ℕ) → serves p q s ≡ true → is_free p d.fork ≡ true
+  serves-free : (s : ℕ) → serves p q s ≡ true → may_run p d.fork ≡ true
   serves-free s h =
       started-free s
       (and_parts (is_started q s) (not (has_failed p q s)) (and_parts (is_at_work p q s) (list_all (is_held p q s) (endpoint_numbers p s)) h).0).0
 
-  accepts-free : (s i : ℕ) → accepts p q s i ≡ true → is_free p d.fork ≡ true
+  accepts-free : (s i : ℕ) → accepts p q s i ≡ true → may_run p d.fork ≡ true
   accepts-free s i h =
       serves-free s (and_parts (serves p q s) (is_endpoint p s i) (and_parts (serves p q s && is_endpoint p s i) (not (have_loops_ended p q s i)) h).0).0
 
-  pub fit-free : (e : Event) → is_fork_event e ≡ false → fits_row p q e ≡ true → is_free p d.fork ≡ true
+  pub fit-free : (e : Event) → is_fork_event e ≡ false → fits_row p q e ≡ true → may_run p d.fork ≡ true
   fit-free (Moment ms) other fit = cc
   fit-free (Side side) other fit = cc
   fit-free ChildReady other fit = cc
@@ -169,7 +169,7 @@ module _ (p : Plan) (d : BootData) (q : Record) (stand : BootStands p d q) where
       (and_parts ((has is_broadcast q && serves p q s) && is_endpoint p s i) (nat_lt j p.tasks && not (has (is_loop_end s i j) q)) fit).0).0).0
   fit-free (Signal kind) other fit = told-free p d q is_running stand running-other fit
 
-fresh-settled : (p : Plan) (d : BootData) (t : ℕ) → is_forked d.fork ≡ p.daemon → is_parent_over d.fork ≡ false → IsBootSettled p (fresh d.fork d.patience) t
+fresh-settled : (p : Plan) (d : BootData) (t : ℕ) → is_forked d.fork ≡ p.daemon → is_parent_over d.fork ≡ false → IsBootSettled p (fresh d.fork d.retries) t
 fresh-settled p d t forks on = record {
   forked_is = forks;
   no_parent_over = on;
@@ -179,14 +179,14 @@ fresh-settled p d t forks on = record {
 }
 
 -- while a server awaits its fork, or a parent its child, all is told that is due
-pub held-settled : (p : Plan) (d : BootData) (q : Record) → BootStands p d q → is_free p d.fork ≡ false → is_forked d.fork ≡ true
+pub held-settled : (p : Plan) (d : BootData) (q : Record) → BootStands p d q → may_run p d.fork ≡ false → is_forked d.fork ≡ true
     → is_parent_over d.fork ≡ false → (t : ℕ) → IsBootSettled p d t
 held-settled p d q stand awaits forks on t =
     subst (λ (x : BootData). IsBootSettled p x t) (sym (as-fresh p d stand.kept (unbegun-is p d q stand awaits)))
     (fresh-settled p d t (forks ∙ sym (stand.fork.daemon_is forks)) on)
 
 -- the run ends then by the parent's end alone
-pub held-end : (p : Plan) (d : BootData) (q : Record) → BootStands p d q → is_free p d.fork ≡ false → end_of p d ≡ early_end d.fork d.receiving
+pub held-end : (p : Plan) (d : BootData) (q : Record) → BootStands p d q → may_run p d.fork ≡ false → end_of p d ≡ early_end d.fork d.receiving
 held-end p d q stand awaits = untested p.test d.begun (unbegun-is p d q stand awaits)
   where
     untested : (test begun : Bool) → begun ≡ false → (if test && begun then Tested else early_end d.fork d.receiving) ≡ early_end d.fork d.receiving

@@ -8,7 +8,7 @@ use Rattle.svc_boot.specs.declared.fork.Fork.{Fork}
 use Rattle.svc_boot.specs.declared.fork.Fork.TheVariants.{Unforked, Asked, Child, Waiting, Over}
 use Rattle.svc_boot.specs.declared.receiving.Receiving.{Receiving}
 use Rattle.svc_boot.specs.BootData.{BootData}
-use Rattle.svc_boot.specs.ForkState.{is_forked, is_child, is_waiting, is_parent, is_parent_over, is_free}
+use Rattle.svc_boot.specs.ForkState.{is_forked, is_child, is_waiting, is_parent, is_parent_over, may_run}
 use Rattle.svc_boot.specs.BootState.{BootStands}
 use Rattle.svc_boot.specs.BootEffects.{waited, begun_by, begun_with, refusal_of, early_end}
 
@@ -35,7 +35,7 @@ forked-waited limit m (Waiting at) = either (nat_le limit ((m - at) / 1000))
 forked-waited limit m (Over status) = refl
 
 -- a server that goes on is no parent
-pub free-no_parent : (p : Plan) (d : BootData) (q : Record) → BootStands p d q → is_free p d.fork ≡ true → is_parent d.fork ≡ false
+pub free-no_parent : (p : Plan) (d : BootData) (q : Record) → BootStands p d q → may_run p d.fork ≡ true → is_parent d.fork ≡ false
 free-no_parent p d q stand free = of d.fork p.daemon stand.fork.daemon_is free
   where
     of : (f : Fork) (daemon : Bool) → (is_forked f ≡ true → daemon ≡ true) → (not daemon || is_child f) ≡ true → is_parent f ≡ false
@@ -46,7 +46,7 @@ free-no_parent p d q stand free = of d.fork p.daemon stand.fork.daemon_is free
     of (Over status) daemon is free = let e = is refl in grind arith
 
 -- and it has forked where it is a daemon
-pub free-forked : (p : Plan) (d : BootData) (q : Record) → BootStands p d q → is_free p d.fork ≡ true → is_forked d.fork ≡ p.daemon
+pub free-forked : (p : Plan) (d : BootData) (q : Record) → BootStands p d q → may_run p d.fork ≡ true → is_forked d.fork ≡ p.daemon
 free-forked p d q stand free = of d.fork p.daemon stand.fork.daemon_is free
   where
     of : (f : Fork) (daemon : Bool) → (is_forked f ≡ true → daemon ≡ true) → (not daemon || is_child f) ≡ true → is_forked f ≡ daemon
@@ -58,7 +58,7 @@ free-forked p d q stand free = of d.fork p.daemon stand.fork.daemon_is free
     of (Over status) daemon is free = sym (is refl)
 
 -- no parent ends it
-pub free-on : (p : Plan) (d : BootData) (q : Record) → BootStands p d q → is_free p d.fork ≡ true → is_parent_over d.fork ≡ false
+pub free-on : (p : Plan) (d : BootData) (q : Record) → BootStands p d q → may_run p d.fork ≡ true → is_parent_over d.fork ≡ false
 free-on p d q stand free = (or_parts (is_waiting d.fork) (is_parent_over d.fork) (free-no_parent p d q stand free)).1
 
 -- so the run ends by the receiving alone

@@ -9,4 +9,4 @@ pub record BootData : Type 0 where
   pub begun : Bool
   pub complete : Bool
   pub receiving : Receiving
-  pub patience : ℕ
+  pub retries : ℕ

@@ -19,11 +19,11 @@ use Rattle.svc_boot.specs.BootState.{is_refused, has_come, notifies}
 
 -- nothing has happened, and so many missing senders are borne
 abbrev pub unbegun : ℕ → BootData
-unbegun limit = record { fork = Unforked; begun = false; complete = false; receiving = Unasked; patience = limit }
+unbegun limit = record { fork = Unforked; begun = false; complete = false; receiving = Unasked; retries = limit }
 
 -- the part with this fork
 abbrev pub forked : Fork → BootData → BootData
-forked f d = record { fork = f; begun = d.begun; complete = d.complete; receiving = d.receiving; patience = d.patience }
+forked f d = record { fork = f; begun = d.begun; complete = d.complete; receiving = d.receiving; retries = d.retries }
 
 -- which side of the fork the process is, at this moment: the child goes on, and the parent waits for it or ends
 abbrev pub side_taken : Bool → Side → ℕ → Fork
@@ -49,9 +49,9 @@ begin_more test notify upgrade moment = if test then [] else notify_told notify 
 
 -- bootstrapping begins: with `test` that is all, else the older server's message is received, or all is complete
 abbrev pub begun_with : Bool → Bool → BootData → BootData
-begun_with true upgrade d = record { fork = d.fork; begun = true; complete = d.complete; receiving = d.receiving; patience = d.patience }
-begun_with false true d = record { fork = d.fork; begun = true; complete = d.complete; receiving = Trying; patience = d.patience }
-begun_with false false d = record { fork = d.fork; begun = true; complete = true; receiving = d.receiving; patience = d.patience }
+begun_with true upgrade d = record { fork = d.fork; begun = true; complete = d.complete; receiving = d.receiving; retries = d.retries }
+begun_with false true d = record { fork = d.fork; begun = true; complete = d.complete; receiving = Trying; retries = d.retries }
+begun_with false false d = record { fork = d.fork; begun = true; complete = true; receiving = d.receiving; retries = d.retries }
 
 -- the part after a beginning: only the first changes it
 abbrev pub begun_from : Bool → Bool → BootData → BootData
@@ -75,17 +75,17 @@ missed moment d = record {
   fork = d.fork;
   begun = d.begun;
   complete = d.complete;
-  receiving = if nat_lt d.patience 1 then Refused NoSender else Missed moment;
-  patience = d.patience - 1;
+  receiving = if nat_lt d.retries 1 then Refused NoSender else Missed moment;
+  retries = d.retries - 1;
 }
 
 -- receiving failed
 abbrev pub failed : BootData → BootData
-failed d = record { fork = d.fork; begun = d.begun; complete = d.complete; receiving = Refused Transfer; patience = d.patience }
+failed d = record { fork = d.fork; begun = d.begun; complete = d.complete; receiving = Refused Transfer; retries = d.retries }
 
 -- a message came that can be read, or one that can't
 abbrev pub received : Bool → BootData → BootData
-received good d = record { fork = d.fork; begun = d.begun; complete = d.complete; receiving = if good then Came else Refused BadMessage; patience = d.patience }
+received good d = record { fork = d.fork; begun = d.begun; complete = d.complete; receiving = if good then Came else Refused BadMessage; retries = d.retries }
 
 -- a message has come, and it wasn't told yet that bootstrapping is complete
 abbrev pub is_complete_due : BootData → Bool
@@ -93,7 +93,7 @@ is_complete_due d = has_come d.receiving && not d.complete
 
 -- the part after that is told
 abbrev pub completed_if : Bool → BootData → BootData
-completed_if due d = record { fork = d.fork; begun = d.begun; complete = d.complete || due; receiving = d.receiving; patience = d.patience }
+completed_if due d = record { fork = d.fork; begun = d.begun; complete = d.complete || due; receiving = d.receiving; retries = d.retries }
 
 -- what is told then
 abbrev pub complete_told : Bool → ℕ → List Action
@@ -101,7 +101,7 @@ complete_told due moment = if due then Phase BootstrapComplete moment ∷ [] els
 
 -- it is tried again
 abbrev pub tried_if : Bool → BootData → BootData
-tried_if due d = record { fork = d.fork; begun = d.begun; complete = d.complete; receiving = if due then Trying else d.receiving; patience = d.patience }
+tried_if due d = record { fork = d.fork; begun = d.begun; complete = d.complete; receiving = if due then Trying else d.receiving; retries = d.retries }
 
 -- what is told then
 abbrev pub try_told : Bool → List Action

@@ -126,7 +126,7 @@ pub record BootStands (p : Plan) (d : BootData) (q : Record) : Type 0 where
   pub begin : BeginStands d q
   pub receiving : ReceivingStands d.receiving q
   pub missing_is : ends_no_sender p q ≡ is_missing d.receiving
-  pub patience_is : d.patience ≡ p.limit - times is_no_sender q
+  pub retries_is : d.retries ≡ p.limit - times is_no_sender q
   pub notified_times : times is_notify q ≡ count_of (has_notified p d)
   pub fork : ForkStands p d.fork q
   pub boots_due : EachEntry (λ e before. boot_due p e before ≡ true) q

@@ -63,8 +63,8 @@ is_over_badly (Over (suc n)) = true
 is_over_badly _ = false
 
 -- the server goes on: it is no daemon, or the process is the child
-abbrev pub is_free : Plan → Fork → Bool
-is_free p f = not p.daemon || is_child f
+abbrev pub may_run : Plan → Fork → Bool
+may_run p f = not p.daemon || is_child f
 
 -- the entry tells something else than the fork
 abbrev pub is_other_told : Entry → Bool
@@ -86,6 +86,6 @@ pub record ForkStands (p : Plan) (f : Fork) (q : Record) : Type 0 where
   pub unready : is_parent f ≡ false → has is_child_ready q ≡ false
   pub unfailed : is_parent f ≡ false → has is_parent_failure q ≡ false
   pub daemon_is : is_forked f ≡ true → p.daemon ≡ true
-  pub held : is_free p f ≡ false → has is_other_told q ≡ false
+  pub held : may_run p f ≡ false → has is_other_told q ≡ false
   pub first : EachEntry (λ e before. stands_first e before ≡ true) q
   pub fork_first : EachEntry (λ e before. fork_first p e before ≡ true) q

@@ -13,7 +13,7 @@ ghost use Rattle.svc_record.specs.Boot.{is_read};
 ghost use Rattle.svc_record.specs.Ends.{is_parent_failure};
 ghost use Rattle.svc_moments.specs.Least.{IsLeast};
 ghost use Rattle.svc_boot.specs.declared.fork.Fork.TheVariants.{Asked, Over};
-ghost use Rattle.svc_boot.specs.ForkState.{is_asked, is_waiting, is_parent_over, is_free};
+ghost use Rattle.svc_boot.specs.ForkState.{is_asked, is_waiting, is_parent_over, may_run};
 ghost use Rattle.svc_boot.specs.BootState.{BootStands, is_trying, is_due_in};
 ghost use Rattle.svc_boot.specs.BootEffects.{unbegun, forked, side_taken, waited, notify_told, receive_told, begun_from, begun_by, told_from, begin_told, begun_with, missed, failed, received, is_complete_due, completed_if, complete_told, tried_if, try_told, end_from, end_of, is_over};
 
@@ -43,7 +43,7 @@ impl Model for Boot {
 
     ghost Value = { BootData };
 
-    ghost view = { λ b. record { fork = b.fork; begun = b.begun; complete = b.complete; receiving = b.receiving; patience = b.retry } };
+    ghost view = { λ b. record { fork = b.fork; begun = b.begun; complete = b.complete; receiving = b.receiving; retries = b.retry } };
 }
 
 /// A try met no sender. Whether that was once too often.
@@ -127,8 +127,8 @@ impl Boot {
     }
 
     /// Whether the server goes on in the run of the plan: it is no daemon, or the process is the child.
-    pub fn is_free(&self, plan: &Plan) -> bool
-        ensures { result ≡ is_free plan.now self.now.fork }
+    pub fn may_run(&self, plan: &Plan) -> bool
+        ensures { result ≡ may_run plan.now self.now.fork }
     {
         !plan.daemon || matches!(self.fork, Fork::Child)
     }
@@ -286,7 +286,7 @@ impl Boot {
         requires room { 4 ≤ spare actions.old }
         ensures after { self.new ≡ begun_by plan.now self.old }
         ensures told { list_of actions.new ≡ list_of actions.old ++ begin_told plan.now self.old moment }
-        ensures stands { (q : Record) → is_free plan.now self.old.fork ≡ true → BootStands plan.now self.old q
+        ensures stands { (q : Record) → may_run plan.now self.old.fork ≡ true → BootStands plan.now self.old q
             → BootStands plan.now self.new (tell q (begin_told plan.now self.old moment)) }
         ensures once { self.old.begun ≡ true → (self.new ≡ self.old) × (list_of actions.new ≡ list_of actions.old) }
         ensures room { spare actions.old ≤ spare actions.new + 4 }
@@ -345,7 +345,7 @@ impl Boot {
         ensures due { result ≡ is_complete_due self.old }
         ensures after { self.new ≡ completed_if result self.old }
         ensures told { list_of actions.new ≡ list_of actions.old ++ complete_told result moment }
-        ensures stands { (p : Plan) (q : Record) → is_free p self.old.fork ≡ true → BootStands p self.old q
+        ensures stands { (p : Plan) (q : Record) → may_run p self.old.fork ≡ true → BootStands p self.old q
             → BootStands p self.new (tell q (complete_told result moment)) }
         ensures room { spare actions.old ≤ spare actions.new + 1 }
         ensures few { length (list_of actions.new) ≤ length (list_of actions.old) + 1 }
@@ -398,7 +398,7 @@ impl Boot {
         ensures due { result ≡ is_due_in self.old.receiving moment }
         ensures after { self.new ≡ tried_if result self.old }
         ensures told { list_of actions.new ≡ list_of actions.old ++ try_told result }
-        ensures stands { (p : Plan) (q : Record) → moment ≡ now q → is_free p self.old.fork ≡ true → BootStands p self.old q
+        ensures stands { (p : Plan) (q : Record) → moment ≡ now q → may_run p self.old.fork ≡ true → BootStands p self.old q
             → BootStands p self.new (tell q (try_told result)) }
         ensures room { spare actions.old ≤ spare actions.new + 1 }
         ensures few { length (list_of actions.new) ≤ length (list_of actions.old) + 1 }

@@ -11,7 +11,7 @@ use Rattle.svc_record.specs.Told.{Tells}
 use Rattle.svc_record.specs.Validity.{IsInOrder}
 use Rattle.svc_record.proofs.Closing.{tell-append}
 use Rattle.svc_endpoints.specs.EndpointsState.{open_numbers}
-use Rattle.svc_boot.specs.ForkState.{is_free}
+use Rattle.svc_boot.specs.ForkState.{may_run}
 use Rattle.svc_boot.specs.BootFacts.{IsBootSettled}
 use Rattle.svc_offer.specs.OfferData.{OfferData}
 use Rattle.svc_offer.specs.OfferState.{OfferStands, IsOfferSettled, over_since, is_send_due}
@@ -46,7 +46,7 @@ map-on false A B f x = tt
 asked-going : (core : CoreData) (copy : Option Message) (q : Record) (o : OfferData) → o ≡ asked core.offer core.drain.moment
     → ((p : Plan) (r : Record) → core.drain.moment ≡ now r → (is_send_due core.offer.state core.drain.moment ≡ true → copy ≡ core.offer.message)
     → OfferStands p core.offer r → OfferStands p o (tell r (ask_with copy core.offer core.drain.moment)))
-    → HasCopy core copy → is_free core.plan core.boot.fork ≡ true
+    → HasCopy core copy → may_run core.plan core.boot.fork ≡ true
     → Going core.plan core.starts core.endpoints core.boot core.offer core.drain core.connections q
     → Going core.plan core.starts core.endpoints core.boot o core.drain core.connections (tell q (ask_with copy core.offer core.drain.moment))
 asked-going core copy q o after stands copied free going =
@@ -70,7 +70,7 @@ asked-going core copy q o after stands copied free going =
 rowed-going : (core : CoreData) (q : Record) (dr : DrainData) → dr ≡ gone_on core.drain (over_since core.offer.state)
     → ((p : Plan) (r : Record) → DrainStands p core.drain (over_since core.offer.state) r
     → DrainStands p dr (over_since core.offer.state) (tell r (row_told core.drain (over_since core.offer.state))))
-    → is_free core.plan core.boot.fork ≡ true → Going core.plan core.starts core.endpoints core.boot core.offer core.drain core.connections q
+    → may_run core.plan core.boot.fork ≡ true → Going core.plan core.starts core.endpoints core.boot core.offer core.drain core.connections q
     → Going core.plan core.starts core.endpoints core.boot core.offer dr core.connections (tell q (row_told core.drain (over_since core.offer.state)))
 rowed-going core q dr after stands free going =
     let told : List Action = row_told core.drain (over_since core.offer.state) in

@@ -14,7 +14,7 @@ use Rattle.svc_record.specs.Right.{is_quiet, is_test_step}
 use Rattle.svc_record.specs.Ends.{ends_tested, has_ended_early, TestedRight}
 use Rattle.svc_record.proofs.Closing.{tell-append}
 use Rattle.svc_boot.specs.BootData.{BootData}
-use Rattle.svc_boot.specs.ForkState.{is_free, is_parent_over}
+use Rattle.svc_boot.specs.ForkState.{may_run, is_parent_over}
 use Rattle.svc_boot.specs.BootState.{BootStands, is_refused, is_through, has_come, is_tried}
 use Rattle.svc_boot.specs.declared.receiving.Receiving.{Receiving}
 use Rattle.svc_boot.specs.declared.receiving.Receiving.TheVariants.{Unasked, Trying, Missed, Came, Refused}
@@ -163,8 +163,8 @@ module _ (core : CoreData) (q : Record) (may : MayBootstrap core q) where
     ripe : IsBootRipe core.plan begun
     ripe = ripe-begun core.plan core.boot may.unbegun (record { goes_on = unrefused; complete_is = alone })
 
-    after-free : is_free core.plan (begun_by core.plan core.boot).fork ≡ true
-    after-free = ap (is_free core.plan) (fork-begin core.plan core.boot) ∙ may.free
+    after-free : may_run core.plan (begun_by core.plan core.boot).fork ≡ true
+    after-free = ap (may_run core.plan) (fork-begin core.plan core.boot) ∙ may.free
 
     after-alive : is_parent_over (begun_by core.plan core.boot).fork ≡ false
     after-alive = free-on core.plan begun followed stands after-free
@@ -230,7 +230,7 @@ bootstrap-plain core new before after end late follows = record {
 
 bootstrap-eager : (core new : CoreData) (before mid after : List Action) (end : StepEnd) → core.plan.eager ≡ true
     → mid ≡ before ++ begin_told core.plan core.boot core.drain.moment
-    → ((q : Record) → is_free core.plan core.boot.fork ≡ true → BootStands core.plan core.boot q
+    → ((q : Record) → may_run core.plan core.boot.fork ≡ true → BootStands core.plan core.boot q
     → BootStands core.plan (begun_by core.plan core.boot) (tell q (begin_told core.plan core.boot core.drain.moment)))
     → Follows (with_boot (begun_by core.plan core.boot) core) new None mid after end → Bootstraps core new before after end
 bootstrap-eager core new before mid after end eager told stands follows = record {
@@ -243,7 +243,7 @@ bootstrap-eager core new before mid after end eager told stands follows = record
 -- the same with what the call gave
 pub bootstrap-eager-at : (core new : CoreData) (b : BootData) (before mid after : List Action) (end : StepEnd) → core.plan.eager ≡ true
     → b ≡ begun_by core.plan core.boot → mid ≡ before ++ begin_told core.plan core.boot core.drain.moment
-    → ((q : Record) → is_free core.plan core.boot.fork ≡ true → BootStands core.plan core.boot q
+    → ((q : Record) → may_run core.plan core.boot.fork ≡ true → BootStands core.plan core.boot q
     → BootStands core.plan b (tell q (begin_told core.plan core.boot core.drain.moment)))
     → Follows (with_boot b core) new None mid after end → Bootstraps core new before after end
 bootstrap-eager-at core new b before mid after end eager boots told stands follows =

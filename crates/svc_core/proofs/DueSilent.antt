@@ -28,7 +28,7 @@ use Rattle.svc_boot.specs.BootData.{BootData}
 use Rattle.svc_boot.specs.BootState.{is_due_in, is_refused}
 use Rattle.svc_boot.specs.BootEffects.{forked, waited, end_of, is_early}
 use Rattle.svc_boot.specs.BootFacts.{IsBootSettled}
-use Rattle.svc_boot.specs.ForkState.{is_free, is_parent_over}
+use Rattle.svc_boot.specs.ForkState.{may_run, is_parent_over}
 use Rattle.svc_boot.proofs.BootEnds.{ended-is}
 use Rattle.svc_boot.proofs.BootLemmas.{stands-waited}
 use Rattle.svc_offer.specs.OfferState.{over_since, is_connect_due, is_send_due}
@@ -97,7 +97,7 @@ module _ (core : CoreData) (q : Record) (from : GoesOnFrom core q) (t : ℕ) (la
   settled = (settled-of core q from.stands from.on).boot
 
   -- a server that goes on
-  module _ (free : is_free core.plan core.boot.fork ≡ true) where
+  module _ (free : may_run core.plan core.boot.fork ≡ true) where
     struck-is : AfterEvent moved (message_at core (Moment t)) next
     struck-is = strike-moment core t (at_moment t core.drain) (message_at core (Moment t)) from.on free later refl
         (λ p over r far stand. moment-stands p core.drain over r t far stand) refl q from.right from.stands
@@ -228,7 +228,7 @@ module _ (core : CoreData) (q : Record) (from : GoesOnFrom core q) (t : ℕ) (la
           to_off false f = refl
 
   -- while the fork is awaited, or to a parent
-  module _ (awaits : is_free core.plan core.boot.fork ≡ false) where
+  module _ (awaits : may_run core.plan core.boot.fork ≡ false) where
     abbrev waiting : BootData
     waiting = forked (waited core.plan.ready_timeout t core.boot.fork) core.boot
 
@@ -286,13 +286,13 @@ at_last : (last t : ℕ) (at : Option ℕ) → last ≤ t → is_before t (from_
 at_last last t None le h = refl
 at_last last t (Some m) le h = grind arith
 
-pub due-before : (core : CoreData) (at : Option ℕ) → IsFormed core.plan core.order core.starts core.endpoints → is_free core.plan core.boot.fork ≡ true
+pub due-before : (core : CoreData) (at : Option ℕ) → IsFormed core.plan core.order core.starts core.endpoints → may_run core.plan core.boot.fork ≡ true
     → (IsRested core → IsLeast (IsDueAt core) at) → TellsNothingBefore core (from_last core.drain.moment at)
 due-before core at formed free least q from t later small early =
     undue-calm core q from t later free formed
     (λ due. (least (rested core q from formed)).before t small (at_last core.drain.moment t at later early) due)
 
-pub waits-before : (core : CoreData) (at : Option ℕ) → IsInOrder core.plan core.order → is_free core.plan core.boot.fork ≡ false
+pub waits-before : (core : CoreData) (at : Option ℕ) → IsInOrder core.plan core.order → may_run core.plan core.boot.fork ≡ false
     → IsLeast (EndsWaitAt core) at → TellsNothingBefore core (from_last core.drain.moment at)
 waits-before core at in_order awaits least q from t later small early =
     waits-calm core q from t later awaits in_order (λ due. least.before t small (at_last core.drain.moment t at later early) due)
@@ -300,7 +300,7 @@ waits-before core at in_order awaits least q from t later small early =
 pub ended-before : (core : CoreData) (at : Option ℕ) → is_on core.end ≡ false → TellsNothingBefore core at
 ended-before core at off q from t later small early = absurd (let on = from.on in cc)
 
-pub due-at : (core : CoreData) (at : Option ℕ) → IsFormed core.plan core.order core.starts core.endpoints → is_free core.plan core.boot.fork ≡ true
+pub due-at : (core : CoreData) (at : Option ℕ) → IsFormed core.plan core.order core.starts core.endpoints → may_run core.plan core.boot.fork ≡ true
     → (IsRested core → IsLeast (IsDueAt core) at) → TellsAt core (from_last core.drain.moment at)
 due-at core None formed free least = tt
 due-at core (Some m) formed free least = (
@@ -309,7 +309,7 @@ due-at core (Some m) formed free least = (
       (due-grows core m (max m core.drain.moment) (omega arith) (least (rested core q from formed)).there),
 )
 
-pub waits-at : (core : CoreData) (at : Option ℕ) → is_free core.plan core.boot.fork ≡ false → IsLeast (EndsWaitAt core) at
+pub waits-at : (core : CoreData) (at : Option ℕ) → may_run core.plan core.boot.fork ≡ false → IsLeast (EndsWaitAt core) at
     → TellsAt core (from_last core.drain.moment at)
 waits-at core None awaits least = tt
 waits-at core (Some m) awaits least = (

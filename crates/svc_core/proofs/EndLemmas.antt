@@ -34,7 +34,7 @@ use Rattle.svc_record.proofs.Tallies.{is_in, tally, if_kept, one_if}
 use Rattle.svc_graph.specs.declared.plan.Kind.TheVariants.{Bootstrap as BootstrapKind}
 use Rattle.svc_record.specs.Plans.{service_count, services, has_kind}
 use Rattle.svc_endpoints.specs.EndpointsState.{open_numbers}
-use Rattle.svc_boot.specs.ForkState.{is_free}
+use Rattle.svc_boot.specs.ForkState.{may_run}
 use Rattle.svc_boot.specs.BootState.{BootStands}
 use Rattle.svc_boot.specs.BootFacts.{IsBootSettled, has_no_boot_action}
 use Rattle.svc_boot.proofs.Foreign as foreign
@@ -365,7 +365,7 @@ module _ (core : CoreData) (q : Record) (in_order : IsInOrder core.plan core.ord
     where
       end-runs : runs p ended_at ≡ may_start p core.boot
       end-runs = ap (λ c. c && (not p.eager || has is_bootstrap_complete ended_at)) (may_begin-is p core.boot ended_at end-boot-stands)
-          ∙ ap (λ c. is_free p core.boot.fork && (not p.eager || c)) end-boot-stands.begin.complete_is
+          ∙ ap (λ c. may_run p core.boot.fork && (not p.eager || c)) end-boot-stands.begin.complete_is
 
   last-step : LastStepRight p q
   last-step = record {

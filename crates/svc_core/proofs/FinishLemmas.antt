@@ -22,7 +22,7 @@ use Rattle.svc_boot.specs.declared.receiving.Receiving.TheVariants.{Unasked, Try
 use Rattle.svc_boot.specs.declared.fork.Fork.{Fork}
 use Rattle.svc_boot.specs.declared.fork.Fork.TheVariants.{Unforked, Asked, Child, Waiting, Over}
 use Rattle.svc_boot.specs.BootData.{BootData}
-use Rattle.svc_boot.specs.ForkState.{is_forked, is_parent_over, is_free}
+use Rattle.svc_boot.specs.ForkState.{is_forked, is_parent_over, may_run}
 use Rattle.svc_boot.specs.BootState.{BootStands, is_refused, is_through, is_due_in, has_come, is_tried}
 use Rattle.svc_boot.specs.BootEffects.{end_of, early_end, refusal_of, is_complete_due, completed_if, complete_told, tried_if, try_told}
 use Rattle.svc_boot.specs.BootFacts.{IsBootSettled}
@@ -107,7 +107,7 @@ through_after c h t u b due f e g k = grind (arith, f, g, k)
 
 -- it was told where bootstrapping is complete
 pub ripen : (core : CoreData) (copy : Option Message) (q : Record) (due : Bool) → due ≡ is_complete_due core.boot
-    → ((r : Record) → is_free core.plan core.boot.fork ≡ true → BootStands core.plan core.boot r
+    → ((r : Record) → may_run core.plan core.boot.fork ≡ true → BootStands core.plan core.boot r
     → BootStands core.plan (completed_if due core.boot) (tell r (complete_told due core.drain.moment)))
     → is_on (end_of core.plan core.boot) ≡ true → (core.plan.upgrade ≡ false → core.boot.complete ≡ is_through core.plan core.boot) → AfterEvent core copy q
     → AfterBootstrap (with_boot (completed_if due core.boot) core) copy (tell q (complete_told due core.drain.moment))
@@ -122,7 +122,7 @@ ripen core copy q due e stands on alone struck =
           (loose-of core.plan core.starts core.endpoints core.boot core.offer core.drain core.connections q going))
           (told-ends due) (stands q struck.free going.boot)
           (begun-tell core.plan q (now q) (complete_told due core.drain.moment) loose ∙ going.begun_is)
-          (λ r. may-more (is_free core.plan core.boot.fork) core.plan.eager core.boot.complete due (going.runs r));
+          (λ r. may-more (may_run core.plan core.boot.fork) core.plan.eager core.boot.complete due (going.runs r));
       free = struck.free;
       quiet = λ none. told-quiet due e none;
       goes_on = on;
@@ -344,7 +344,7 @@ settled-by p b m due e forks alive ripe = record {
 -- what is left of a step, where services may start or not
 module _ (core : CoreData) (in_order : IsInOrder core.plan core.order) (on : is_on (end_of core.plan core.boot) ≡ true) (due : Bool)
     (due_is : due ≡ is_due_in core.boot.receiving core.drain.moment) (dr : DrainData) (same_moment : dr.moment ≡ core.drain.moment)
-    (stands : (q : Record) → core.drain.moment ≡ now q → is_free core.plan core.boot.fork ≡ true → BootStands core.plan core.boot q
+    (stands : (q : Record) → core.drain.moment ≡ now q → may_run core.plan core.boot.fork ≡ true → BootStands core.plan core.boot q
     → BootStands core.plan (tried_if due core.boot) (tell q (try_told due))) where
   tries-loose : (m : ℕ) (c : Bool) → are_loose m (try_told c) ≡ true
   tries-loose m true = refl
@@ -367,7 +367,7 @@ module _ (core : CoreData) (in_order : IsInOrder core.plan core.order) (on : is_
   end-kept false k = refl
 
   pub settle : (copy : Option Message) (q : Record) → Going core.plan core.starts core.endpoints core.boot core.offer dr core.connections q
-      → is_free core.plan core.boot.fork ≡ true → IsBootRipe core.plan core.boot
+      → may_run core.plan core.boot.fork ≡ true → IsBootRipe core.plan core.boot
       → OnTrue (may_start core.plan core.boot) (VisitedUpTo core.plan core.order (length core.order) q) → dr.running ≡ may_start core.plan core.boot
       → HasCopy core copy
       → AfterRetry (record core { boot = tried_if due core.boot; drain = dr; end = end_of core.plan core.boot }) copy (tell q (try_told due))
@@ -404,7 +404,7 @@ pub go-on : (core : CoreData) (copy : Option Message) (before mid after : List A
     → is_on (end_of core.plan core.boot) ≡ true → may_start core.plan core.boot ≡ true
     → ((p : Plan) (over : Option ℕ) (r : Record) → DrainStands p core.drain over r → DrainStands p (run core.drain) over (tell r (run_told core.drain)))
     → mid ≡ before ++ run_told core.drain → (due : Bool) → due ≡ is_due_in core.boot.receiving core.drain.moment → after ≡ mid ++ try_told due
-    → ((q : Record) → core.drain.moment ≡ now q → is_free core.plan core.boot.fork ≡ true → BootStands core.plan core.boot q
+    → ((q : Record) → core.drain.moment ≡ now q → may_run core.plan core.boot.fork ≡ true → BootStands core.plan core.boot q
     → BootStands core.plan (tried_if due core.boot) (tell q (try_told due)))
     → Tells before after (λ told. (q : Record) → AfterPass core copy q
     → AfterRetry (record core { boot = tried_if due core.boot; drain = run core.drain; end = end_of core.plan core.boot }) copy (tell q told))
@@ -435,7 +435,7 @@ go-on core copy before mid after in_order on may runs first due due_is next stan
 pub go-waiting : (core : CoreData) (copy : Option Message) (before after : List Action) → IsInOrder core.plan core.order
     → is_on (end_of core.plan core.boot) ≡ true → may_start core.plan core.boot ≡ false
     → (due : Bool) → due ≡ is_due_in core.boot.receiving core.drain.moment → after ≡ before ++ try_told due
-    → ((q : Record) → core.drain.moment ≡ now q → is_free core.plan core.boot.fork ≡ true → BootStands core.plan core.boot q
+    → ((q : Record) → core.drain.moment ≡ now q → may_run core.plan core.boot.fork ≡ true → BootStands core.plan core.boot q
     → BootStands core.plan (tried_if due core.boot) (tell q (try_told due)))
     → Tells before after (λ told. (q : Record) → AfterPass core copy q
     → AfterRetry (record core { boot = tried_if due core.boot; end = end_of core.plan core.boot }) copy (tell q told))
@@ -464,7 +464,7 @@ follows-ended core copy before off = record {
 -- the stages one after the other
 pub follows-on : (core ripe_core visited_core new : CoreData) (copy : Option Message) (before mid passed after : List Action) (end : StepEnd) (due : Bool)
     → due ≡ is_complete_due core.boot → mid ≡ before ++ complete_told due core.drain.moment
-    → ((r : Record) → is_free core.plan core.boot.fork ≡ true → BootStands core.plan core.boot r
+    → ((r : Record) → may_run core.plan core.boot.fork ≡ true → BootStands core.plan core.boot r
     → BootStands core.plan (completed_if due core.boot) (tell r (complete_told due core.drain.moment)))
     → is_on (end_of core.plan core.boot) ≡ true → ripe_core ≡ with_boot (completed_if due core.boot) core
     → Tells mid passed (λ told. (copy : Option Message) (q : Record) → AfterBootstrap ripe_core copy q → AfterPass visited_core copy (tell q told))
@@ -509,7 +509,7 @@ pub go-on-at : (core : CoreData) (copy : Option Message) (end : StepEnd) (b : Bo
     → IsInOrder core.plan core.order → is_on end ≡ true → may_start core.plan core.boot ≡ true
     → ((p : Plan) (over : Option ℕ) (r : Record) → DrainStands p core.drain over r → DrainStands p dr over (tell r (run_told core.drain)))
     → mid ≡ before ++ run_told core.drain → due ≡ is_due_in core.boot.receiving core.drain.moment → after ≡ mid ++ try_told due
-    → ((q : Record) → core.drain.moment ≡ now q → is_free core.plan core.boot.fork ≡ true → BootStands core.plan core.boot q
+    → ((q : Record) → core.drain.moment ≡ now q → may_run core.plan core.boot.fork ≡ true → BootStands core.plan core.boot q
     → BootStands core.plan b (tell q (try_told due)))
     → Tells before after (λ told. (q : Record) → AfterPass core copy q
     → AfterRetry (record core { boot = b; drain = dr; end = end }) copy (tell q told))
@@ -521,7 +521,7 @@ pub go-waiting-at : (core : CoreData) (copy : Option Message) (end : StepEnd) (b
     → end ≡ end_of core.plan core.boot → b ≡ tried_if due core.boot
     → IsInOrder core.plan core.order → is_on end ≡ true → may_start core.plan core.boot ≡ false
     → due ≡ is_due_in core.boot.receiving core.drain.moment → after ≡ before ++ try_told due
-    → ((q : Record) → core.drain.moment ≡ now q → is_free core.plan core.boot.fork ≡ true → BootStands core.plan core.boot q
+    → ((q : Record) → core.drain.moment ≡ now q → may_run core.plan core.boot.fork ≡ true → BootStands core.plan core.boot q
     → BootStands core.plan b (tell q (try_told due)))
     → Tells before after (λ told. (q : Record) → AfterPass core copy q
     → AfterRetry (record core { boot = b; end = end }) copy (tell q told))
@@ -537,7 +537,7 @@ pub follows-on-at : (core ripe_core visited_core new : CoreData) (copy : Option 
     (before mid passed after : List Action) (due : Bool)
     → held ≡ end_of core.plan core.boot → is_on held ≡ true → due ≡ is_complete_due core.boot → b ≡ completed_if due core.boot
     → mid ≡ before ++ complete_told due core.drain.moment
-    → ((r : Record) → is_free core.plan core.boot.fork ≡ true → BootStands core.plan core.boot r
+    → ((r : Record) → may_run core.plan core.boot.fork ≡ true → BootStands core.plan core.boot r
     → BootStands core.plan b (tell r (complete_told due core.drain.moment)))
     → ripe_core ≡ record core { boot = b; end = held }
     → Tells mid passed (λ told. (copy : Option Message) (q : Record) → AfterBootstrap ripe_core copy q → AfterPass visited_core copy (tell q told))

@@ -91,27 +91,27 @@ going-from p st d b o dr cn q h ends boot begun runs = record {
 }
 
 -- an action that starts nothing and doesn't belong to the end, with the moment in a phase
-abbrev pub is_free : ℕ → Action → Bool
-is_free m (Fail s) = true
-is_free m (Bind s i) = true
-is_free m (Adopt s i fd) = true
-is_free m (Close fd) = true
-is_free m OpenReceiver = true
-is_free m TryReceive = true
-is_free m NotifyParent = true
-is_free m Daemonize = true
-is_free m Connect = true
-is_free m (Send bytes fds) = true
-is_free m Broadcast = true
-is_free m (Phase x ms) = ms == m
-is_free m (Judged c said) = true
-is_free m (Refuse c) = true
-is_free m (TellSettings c list) = true
-is_free m (Handshake c) = true
-is_free m (Serve c) = true
-is_free m (Drop c) = true
-is_free m (Rest s i) = true
-is_free m _ = false
+abbrev pub may_run : ℕ → Action → Bool
+may_run m (Fail s) = true
+may_run m (Bind s i) = true
+may_run m (Adopt s i fd) = true
+may_run m (Close fd) = true
+may_run m OpenReceiver = true
+may_run m TryReceive = true
+may_run m NotifyParent = true
+may_run m Daemonize = true
+may_run m Connect = true
+may_run m (Send bytes fds) = true
+may_run m Broadcast = true
+may_run m (Phase x ms) = ms == m
+may_run m (Judged c said) = true
+may_run m (Refuse c) = true
+may_run m (TellSettings c list) = true
+may_run m (Handshake c) = true
+may_run m (Serve c) = true
+may_run m (Drop c) = true
+may_run m (Rest s i) = true
+may_run m _ = false
 
 base-one : (p : Plan) (st : StartsData) (q : Record) (a : Action) → ((s : ℕ) → is_started (Told a ∷ q) s ≡ is_started q s)
     → start_due p (Told a) q ≡ true → start_after_boot p (Told a) q ≡ true → every_moment_right (Told a) q ≡ true → start_known p (Told a) q ≡ true
@@ -132,7 +132,7 @@ base-one p st q a starts due after moment known ends h = record {
   asks = h.asks;
 }
 
-pub base-told : (p : Plan) (st : StartsData) (q : Record) (a : Action) → is_free (now q) a ≡ true → Base p st q → Base p st (Told a ∷ q)
+pub base-told : (p : Plan) (st : StartsData) (q : Record) (a : Action) → may_run (now q) a ≡ true → Base p st q → Base p st (Told a ∷ q)
 base-told p st q (Fail s) k h = base-one p st q (Fail s) (λ t. refl) refl refl refl refl refl h
 base-told p st q (Bind s i) k h = base-one p st q (Bind s i) (λ t. refl) refl refl refl refl refl h
 base-told p st q (Adopt s i fd) k h = base-one p st q (Adopt s i fd) (λ t. refl) refl refl refl refl refl h
@@ -157,12 +157,12 @@ base-told p st q _ k h = absurd (cc)
 -- such actions, one after the other
 abbrev pub are_free : ℕ → List Action → Bool
 are_free m [] = true
-are_free m (a ∷ told) = is_free m a && are_free m told
+are_free m (a ∷ told) = may_run m a && are_free m told
 
 pub base-tell : (p : Plan) (st : StartsData) (q : Record) (told : List Action) → are_free (now q) told ≡ true → Base p st q → Base p st (tell q told)
 base-tell p st q [] k h = h
 base-tell p st q (a ∷ told) k h =
-    let parts = and_parts (is_free (now q) a) (are_free (now q) told) k in
+    let parts = and_parts (may_run (now q) a) (are_free (now q) told) k in
     base-tell p st (Told a ∷ q) told parts.1 (base-told p st q a parts.0 h)
 
 -- one that belongs to no offer and to no shutdown either
@@ -180,7 +180,7 @@ is_loose m _ = false
 
 -- what such an action is
 pub record IsLoose (p : Plan) (m : ℕ) (q : Record) (a : Action) : Type 0 where
-  pub free : is_free m a ≡ true
+  pub free : may_run m a ≡ true
   pub drain : is_drain_action a ≡ false
   pub offer : is_offer_action a ≡ false
   pub connections : touches_connections a ≡ false
@@ -286,7 +286,7 @@ begun-boots p q s lt h =
     (range-any (λ t. has_kind p BootstrapKind t && ((s == t) || is_started q t)) (service_count p) 0 s (omega arith) (omega arith)
     (and_from (has_kind p BootstrapKind s) ((s == s) || is_started q s) h (or_left (s == s) (is_started q s) (eq-eqb s s refl))))
 
-begun-free : (p : Plan) (q : Record) (m : ℕ) (a : Action) → is_free m a ≡ true → has_begun p (Told a ∷ q) ≡ has_begun p q
+begun-free : (p : Plan) (q : Record) (m : ℕ) (a : Action) → may_run m a ≡ true → has_begun p (Told a ∷ q) ≡ has_begun p q
 begun-free p q m (Fail s) k = refl
 begun-free p q m (Bind s i) k = refl
 begun-free p q m (Adopt s i fd) k = refl
@@ -311,7 +311,7 @@ begun-free p q m _ k = absurd (cc)
 pub begun-frees : (p : Plan) (q : Record) (m : ℕ) (told : List Action) → are_free m told ≡ true → has_begun p (tell q told) ≡ has_begun p q
 begun-frees p q m [] k = refl
 begun-frees p q m (a ∷ told) k =
-    let parts = and_parts (is_free m a) (are_free m told) k in begun-frees p (Told a ∷ q) m told parts.1 ∙ begun-free p q m a parts.0
+    let parts = and_parts (may_run m a) (are_free m told) k in begun-frees p (Told a ∷ q) m told parts.1 ∙ begun-free p q m a parts.0
 
 pub begun-tell : (p : Plan) (q : Record) (m : ℕ) (told : List Action) → are_loose m told ≡ true → has_begun p (tell q told) ≡ has_begun p q
 begun-tell p q m [] k = refl

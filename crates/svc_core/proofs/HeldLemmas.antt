@@ -25,7 +25,7 @@ use Rattle.svc_boot.specs.declared.fork.Fork.{Fork}
 use Rattle.svc_boot.specs.declared.fork.Fork.TheVariants.{Unforked, Asked, Child, Waiting, Over}
 use Rattle.svc_boot.specs.declared.receiving.Receiving.{Receiving}
 use Rattle.svc_boot.specs.BootData.{BootData}
-use Rattle.svc_boot.specs.ForkState.{ForkStands, is_forked, is_asked, is_child, is_waiting, is_parent_over, is_free}
+use Rattle.svc_boot.specs.ForkState.{ForkStands, is_forked, is_asked, is_child, is_waiting, is_parent_over, may_run}
 use Rattle.svc_boot.specs.BootState.{BootStands}
 use Rattle.svc_boot.specs.BootEffects.{end_of, early_end, forked, side_taken, waited}
 use Rattle.svc_boot.specs.BootFacts.{is_fork_event}
@@ -70,7 +70,7 @@ awaits-by daemon child is none = grind arith
 daemon-by : (daemon child : Bool) → (not daemon || child) ≡ false → daemon ≡ true
 daemon-by daemon child awaits = grind arith
 
-pub awaits-is : (p : Plan) (f : Fork) (q : Record) → ForkStands p f q → is_forked f ≡ true → is_child f ≡ false → is_free p f ≡ false
+pub awaits-is : (p : Plan) (f : Fork) (q : Record) → ForkStands p f q → is_forked f ≡ true → is_child f ≡ false → may_run p f ≡ false
 awaits-is p f q stand forks none = awaits-by p.daemon (is_child f) (stand.daemon_is forks) none
 
 -- where no signal came, nothing follows one
@@ -124,7 +124,7 @@ idle-offer p o q t stand silent =
 -- the parts of a core that awaits its fork, or of a parent, stand for q, and a parent that ends told nothing in this step
 pub record Held (core : CoreData) (q : Record) : Type 0 where
   pub going : Going core.plan core.starts core.endpoints core.boot core.offer core.drain core.connections q
-  pub awaits : is_free core.plan core.boot.fork ≡ false
+  pub awaits : may_run core.plan core.boot.fork ≡ false
   pub forks : is_forked core.boot.fork ≡ true
   pub idle : core.drain.running ≡ false
   pub silent : is_parent_over core.boot.fork ≡ true → last_step q ≡ []
@@ -148,7 +148,7 @@ module _ (core : CoreData) (q : Record) (in_order : IsInOrder core.plan core.ord
   untested = and_none core.plan.test core.boot.begun (unbegun-is core.plan core.boot q held.going.boot held.awaits)
 
   waits : may_start core.plan core.boot ≡ false
-  waits = first_none (is_free core.plan core.boot.fork) (not core.plan.eager || core.boot.complete) held.awaits
+  waits = first_none (may_run core.plan core.boot.fork) (not core.plan.eager || core.boot.complete) held.awaits
 
   no-signal : signal_of q ≡ None
   no-signal = idle-silent core.plan core.drain (over_since core.offer.state) q held.going.drain held.idle
@@ -290,17 +290,17 @@ of-fork p q DropFailed h =
 of-fork p q _ h = absurd (cc)
 
 -- a core that is held doesn't run
-held-idle : (core : CoreData) (q : Record) → Represents core q → is_free core.plan core.boot.fork ≡ false → core.drain.running ≡ false
+held-idle : (core : CoreData) (q : Record) → Represents core q → may_run core.plan core.boot.fork ≡ false → core.drain.running ≡ false
 held-idle core q stands awaits = elim (cases_Bool core.drain.running) [
   | inl runs ↦
-      absurd (let may = stands.runs runs in let off = first_none (is_free core.plan core.boot.fork) (not core.plan.eager || core.boot.complete) awaits in cc)
+      absurd (let may = stands.runs runs in let off = first_none (may_run core.plan core.boot.fork) (not core.plan.eager || core.boot.complete) awaits in cc)
   | inr idle ↦ idle
 ]
 
 -- an event of the fork, after which nothing is told
 module _ (core : CoreData) (q : Record) (e : Event) (b : BootData) (dr : DrainData) (right : Right core.plan q) (stands : Represents core q)
     (on : is_on core.end ≡ true) (fit : fits core.plan q e ≡ true)
-    (event : is_fork_event e ≡ true) (other : is_side_child (Got e) ≡ false) (was_held : is_free core.plan core.boot.fork ≡ false)
+    (event : is_fork_event e ≡ true) (other : is_side_child (Got e) ≡ false) (was_held : may_run core.plan core.boot.fork ≡ false)
     (drain : DrainStands core.plan dr (over_since core.offer.state) (Got e ∷ q)) (running : dr.running ≡ core.drain.running)
     (boot : BootStands core.plan b (Got e ∷ q)) (begun : b.begun ≡ core.boot.begun) (forks : is_forked b.fork ≡ true) (none : is_child b.fork ≡ false) where
   is : IsForkEvent core.plan q e
@@ -434,7 +434,7 @@ failure-is p DropFailed h = record { event = refl; other = refl; plain = refl; r
 failure-is p _ h = absurd (cc)
 
 -- a moment that nothing follows
-pub waiting-held : (core : CoreData) (ms : ℕ) (b : BootData) (dr : DrainData) → is_on core.end ≡ true → is_free core.plan core.boot.fork ≡ false
+pub waiting-held : (core : CoreData) (ms : ℕ) (b : BootData) (dr : DrainData) → is_on core.end ≡ true → may_run core.plan core.boot.fork ≡ false
     → core.drain.moment ≤ ms → dr ≡ at_moment ms core.drain
     → ((p : Plan) (over : Option ℕ) (q : Record) → IsDrainSettled core.drain over → DrainStands p core.drain over q
     → DrainStands p dr over (Got (Moment ms) ∷ q))
@@ -481,7 +481,7 @@ child-may core b on may after boots q right stands =
       earlier = loose.base.earlier;
       fails = loose.base.fails;
       asks = loose.base.asks;
-      free = ap (λ (x : BootData). is_free core.plan x.fork) after ∙ or_right (not core.plan.daemon) true refl;
+      free = ap (λ (x : BootData). may_run core.plan x.fork) after ∙ or_right (not core.plan.daemon) true refl;
       begins = begun-child core.plan q ∙ begins_by core.plan.eager (has_begun core.plan q) (stands.begun_is ∙ unbegun);
       unbegun = ap (λ (x : BootData). x.begun) after ∙ unbegun;
       idle = held-idle core q stands awaits;

@@ -16,7 +16,7 @@ use Rattle.svc_endpoints.specs.EndpointsState.{EndpointsStand}
 use Rattle.svc_endpoints.specs.Foreign.{is_endpoints_action}
 use Rattle.svc_endpoints.proofs.EventLemmas.{stands-told}
 use Rattle.svc_boot.specs.BootData.{BootData}
-use Rattle.svc_boot.specs.ForkState.{is_free as goes_on}
+use Rattle.svc_boot.specs.ForkState.{may_run as goes_on}
 use Rattle.svc_boot.specs.BootState.{BootStands}
 use Rattle.svc_boot.specs.BootFacts.{is_boot_action}
 use Rattle.svc_boot.proofs.Foreign as boots
@@ -34,7 +34,7 @@ use Rattle.svc_drain.specs.DrainEffects.{stage_told, row_told, timeout_told, gra
 use Rattle.svc_drain.specs.DrainFacts.{has_no_drain_action}
 use Rattle.svc_connections.specs.ConnectionsFacts.{touches_connections, has_no_connection_action}
 use Rattle.svc_core.specs.Passes.{VisitedUpTo}
-use Rattle.svc_core.proofs.GoingLemmas.{is_free, are_free}
+use Rattle.svc_core.proofs.GoingLemmas.{may_run, are_free}
 
 -- an ask of the offer, the broadcast, or a phase that follows a signal and carries the moment
 abbrev pub is_late : ℕ → Action → Bool
@@ -50,7 +50,7 @@ is_late m _ = false
 
 -- what such an action is
 pub record IsLate (p : Plan) (order : List ℕ) (k m : ℕ) (q : Record) (a : Action) : Type 0 where
-  pub free : is_free m a ≡ true
+  pub free : may_run m a ≡ true
   pub boot : is_boot_action a ≡ false
   pub ends : is_endpoints_action a ≡ false
   pub connections : touches_connections a ≡ false
@@ -182,7 +182,7 @@ late-keeps p order k m d b q (a ∷ told) h =
     let here = late-is p order k m q a parts.0 in
     let rest = late-keeps p order k m d b (Told a ∷ q) told parts.1 in
     record {
-      free = both-free (is_free m a) (are_free m told) here.free rest.free;
+      free = both-free (may_run m a) (are_free m told) here.free rest.free;
       apart = both-free (not (touches_connections a)) (has_no_connection_action told) (ap not here.connections) rest.apart;
       ends = λ e. rest.ends (stands-told p d q a here.ends e);
       boot = λ free e. rest.boot free (boots.stands-told p b q a here.boot free e);

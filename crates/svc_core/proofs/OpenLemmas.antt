@@ -25,7 +25,7 @@ use Rattle.svc_boot.specs.declared.receiving.Receiving.TheVariants.{Unasked, Try
 use Rattle.svc_boot.specs.BootData.{BootData}
 use Rattle.svc_boot.specs.declared.fork.Fork.{Fork}
 use Rattle.svc_boot.specs.declared.fork.Fork.TheVariants.{Unforked, Asked, Child, Waiting, Over}
-use Rattle.svc_boot.specs.ForkState.{is_free, is_parent_over}
+use Rattle.svc_boot.specs.ForkState.{may_run, is_parent_over}
 use Rattle.svc_boot.specs.BootState.{is_refused}
 use Rattle.svc_boot.specs.BootEffects.{end_of, early_end, refusal_of, is_early}
 use Rattle.svc_boot.specs.BootFacts.{IsBootSettled}
@@ -121,7 +121,7 @@ module _ (p : Plan) (st : StartsData) (d : EndpointsData) (b : BootData) (o : Of
 
   pub runs-same : runs p q ≡ may_start p b
   runs-same = ap (λ c. c && (not p.eager || has is_bootstrap_complete q)) (may_begin-is p b q going.boot)
-      ∙ ap (λ c. is_free p b.fork && (not p.eager || c)) going.boot.begin.complete_is
+      ∙ ap (λ c. may_run p b.fork && (not p.eager || c)) going.boot.begin.complete_is
 
   pub running-right : dr.running ≡ may_start p b → times is_running q ≡ (if runs p q then 1 else 0)
   running-right runs_now = going.drain.running_is ∙ ap (λ c. if c then 1 else 0) (runs_now ∙ sym runs-same)

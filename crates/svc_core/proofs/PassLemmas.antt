@@ -27,7 +27,7 @@ use Rattle.svc_endpoints.specs.Visits.{IsAskOf, Visited}
 use Rattle.svc_endpoints.proofs.EventLemmas.{stands-told, stands-start as ends-start}
 use Rattle.svc_endpoints.proofs.SharedLemmas.{right-bind, right-adopt, right-start, late-bind, late-adopt, late-start}
 use Rattle.svc_boot.specs.BootData.{BootData}
-use Rattle.svc_boot.specs.ForkState.{is_free}
+use Rattle.svc_boot.specs.ForkState.{may_run}
 use Rattle.svc_boot.specs.BootState.{BootStands, has_come, notifies}
 use Rattle.svc_boot.specs.BootEffects.{begin_more, begin_told, begun_by, begun_with, receive_told}
 use Rattle.svc_boot.specs.BootFacts.{has_no_boot_action}
@@ -201,7 +201,7 @@ ask-silent q s (_ ∷ _) a = absurd a
 
 -- the beginning, by the flags
 pub begun-now : (p : Plan) (b : BootData) → b.begun ≡ false → (begun_by p b).begun ≡ true
-begun-now p b e = rw e (by p.test p.upgrade (record { fork = b.fork; begun = false; complete = b.complete; receiving = b.receiving; patience = b.patience }))
+begun-now p b e = rw e (by p.test p.upgrade (record { fork = b.fork; begun = false; complete = b.complete; receiving = b.receiving; retries = b.retries }))
   where
     by : (test upgrade : Bool) (x : BootData) → (begun_with test upgrade x).begun ≡ true
     by true upgrade x = refl
@@ -212,22 +212,22 @@ or_grown : (free e c x : Bool) → (c ≡ true → x ≡ true) → (free && (not
 or_grown free e c x f h = grind (arith, f)
 
 -- where services may start, no fork is awaited
-pub may-free : (p : Plan) (b : BootData) → may_start p b ≡ true → is_free p b.fork ≡ true
-may-free p b h = (and_parts (is_free p b.fork) (not p.eager || b.complete) h).0
+pub may-free : (p : Plan) (b : BootData) → may_start p b ≡ true → may_run p b.fork ≡ true
+may-free p b h = (and_parts (may_run p b.fork) (not p.eager || b.complete) h).0
 
 -- and bootstrapping is complete, or needn't be
 pub may-complete : (p : Plan) (b : BootData) → may_start p b ≡ true → (not p.eager || b.complete) ≡ true
-may-complete p b h = (and_parts (is_free p b.fork) (not p.eager || b.complete) h).1
+may-complete p b h = (and_parts (may_run p b.fork) (not p.eager || b.complete) h).1
 
 may-grows : (p : Plan) (b : BootData) → may_start p b ≡ true → may_start p (begun_by p b) ≡ true
 may-grows p b h =
-    ap (λ f. is_free p f && (not p.eager || (begun_by p b).complete)) (fork-begin p b)
-    ∙ or_grown (is_free p b.fork) p.eager b.complete (begun_by p b).complete
+    ap (λ f. may_run p f && (not p.eager || (begun_by p b).complete)) (fork-begin p b)
+    ∙ or_grown (may_run p b.fork) p.eager b.complete (begun_by p b).complete
     (λ e. (elim (cases_Bool b.begun) [
       | inl begun ↦ rw begun e
       | inr not_begun ↦
           rw not_begun
-          (by p.test p.upgrade (record { fork = b.fork; begun = false; complete = b.complete; receiving = b.receiving; patience = b.patience }) e)
+          (by p.test p.upgrade (record { fork = b.fork; begun = false; complete = b.complete; receiving = b.receiving; retries = b.retries }) e)
     ])) h
   where
     by : (test upgrade : Bool) (x : BootData) → x.complete ≡ true → (begun_with test upgrade x).complete ≡ true
@@ -497,7 +497,7 @@ pub starting-boot : (p : Plan) → IsValid p → (order : List ℕ) (dr : DrainD
     → IsStartsSized p st → is_tested p b ≡ false → true ≡ starts_now p st d.failed b.complete (slice_index order k)
     → has_kind p BootstrapKind (slice_index order k) ≡ true → b.begun ≡ false
     → mid ≡ before ++ Start (slice_index order k) ∷ [] → after ≡ mid ++ begin_told p b dr.moment
-    → ((q : Record) → is_free p b.fork ≡ true → BootStands p b q → BootStands p (begun_by p b) (tell q (begin_told p b dr.moment)))
+    → ((q : Record) → may_run p b.fork ≡ true → BootStands p b q → BootStands p (begun_by p b) (tell q (begin_told p b dr.moment)))
     → Starting p order dr k st (start_if true (slice_index order k) st) d b (begun_by p b) before after
 starting-boot p valid order dr k place in_order st d b before mid after sized untested e boots unbegun first next stands = record {
   told = Start (slice_index order k) ∷ begin_told p b dr.moment;

@@ -6,7 +6,7 @@ use Rattle.std.proofs.lemmas.Bool.Decides.{nat_tests}
 use Rattle.svc_fds.specs.declared.encoding.Message.{Message}
 use Rattle.svc_fds.specs.declared.retry.SendAnswer.{SendAnswer}
 use Rattle.svc_fds.specs.declared.retry.SendAnswer.TheVariants as answers
-use Rattle.svc_fds.specs.Patience.{Patience}
+use Rattle.svc_fds.specs.RetriesLeft.{RetriesLeft}
 use Rattle.svc_record.specs.declared.plan.Plan.{Plan}
 use Rattle.svc_record.specs.declared.entry.Entry.TheVariants.{Got}
 use Rattle.svc_record.specs.declared.action.Action.{Action}
@@ -34,7 +34,7 @@ use Rattle.svc_endpoints.specs.EndpointsState.{EndpointsStand}
 use Rattle.svc_endpoints.specs.Foreign.{is_endpoints_event}
 use Rattle.svc_endpoints.proofs.EventLemmas.{stands-got, stands-signal}
 use Rattle.svc_boot.specs.BootFacts.{is_boot_event, is_fork_event, IsBootSettled}
-use Rattle.svc_boot.specs.ForkState.{is_free, is_parent_over}
+use Rattle.svc_boot.specs.ForkState.{may_run, is_parent_over}
 use Rattle.svc_boot.specs.BootState.{is_refused}
 use Rattle.svc_boot.specs.BootEffects.{end_of, is_early}
 use Rattle.svc_boot.proofs.BootEnds.{boot-right}
@@ -91,7 +91,7 @@ pub silent-may : (p : Plan) (q : Record) → signal_of q ≡ None → MayEnd p q
 silent-may p q none = record { unpassed = unsignalled-unpassed p q none; asks = rw none refl }
 
 -- a moment
-pub strike-moment : (core : CoreData) (ms : ℕ) (dr : DrainData) (copy : Option Message) → is_on core.end ≡ true → is_free core.plan core.boot.fork ≡ true
+pub strike-moment : (core : CoreData) (ms : ℕ) (dr : DrainData) (copy : Option Message) → is_on core.end ≡ true → may_run core.plan core.boot.fork ≡ true
     → core.drain.moment ≤ ms → dr ≡ at_moment ms core.drain
     → ((p : Plan) (over : Option ℕ) (q : Record) → IsDrainSettled core.drain over → DrainStands p core.drain over q
     → DrainStands p dr over (Got (events.Moment ms) ∷ q))
@@ -562,7 +562,7 @@ awaited-none (Over at) a h = absurd (let off = never at a in cc)
     never t answers.SendFailed = refl
 
 -- an answer but `Connected` lets no send fall due
-answer-rests : (n : Patience) (a : SendAnswer) (m : ℕ) → is_reached a ≡ false → is_send_due (if ends_by n a then Over m else state_after a m) m ≡ false
+answer-rests : (n : RetriesLeft) (a : SendAnswer) (m : ℕ) → is_reached a ≡ false → is_send_due (if ends_by n a then Over m else state_after a m) m ≡ false
 answer-rests n a m h = by (ends_by n a) a h
   where
     soon : (t : ℕ) → nat_le 500 (t - t) ≡ false
@@ -629,7 +629,7 @@ module _ (core : CoreData) (a : SendAnswer) (on : is_on core.end ≡ true) (may 
       drains.stands-got core.plan core.drain (over_since core.offer.state) (over_since o.state) q (event_of a) (answer-is core.plan a).plain
       (settled-of core q stands on).drain answer-over not-over (drain-of core q stands on)
 
-  answer-free : is_free core.plan core.boot.fork ≡ true
+  answer-free : may_run core.plan core.boot.fork ≡ true
   answer-free = free-of core q (event_of a) stands (fits-answer core q a on may stands) (answer-is core.plan a).fork
 
   answer-other : is_side_child (Got (event_of a)) ≡ false
@@ -670,7 +670,7 @@ module _ (core : CoreData) (a : SendAnswer) (on : is_on core.end ≡ true) (may 
       (not-ended core.plan core.boot (tell (Got (event_of a) ∷ q) gave) (on-boot core q stands on))
       (inr (may-tell core.plan (now q) (Got (event_of a) ∷ q) gave (giving-loose (now q) gave giving) may_end))
       (λ due. absurd
-      (let unsent = ap (λ (x : OfferData). is_send_due x.state core.drain.moment) after ∙ answer-rests core.offer.patience a core.drain.moment rests in cc))
+      (let unsent = ap (λ (x : OfferData). is_send_due x.state core.drain.moment) after ∙ answer-rests core.offer.retries a core.drain.moment rests in cc))
     where
       over-asks : (p : Plan) (r : Record) → is_over p r ≡ true → one_ask p r ≡ true
       over-asks p r h = rw h (by _ _)
@@ -702,7 +702,7 @@ strike-rests core a on may o after takes over over_is goes rests q right stands 
     strike-going core a on may o after takes q right stands None
     (none-since over (over_since o.state) over_is goes)
     (λ due. absurd
-    (let unsent = ap (λ (x : OfferData). is_send_due x.state core.drain.moment) after ∙ answer-rests core.offer.patience a core.drain.moment rests in cc))
+    (let unsent = ap (λ (x : OfferData). is_send_due x.state core.drain.moment) after ∙ answer-rests core.offer.retries a core.drain.moment rests in cc))
     (awaited-runs core a on may q stands)
   where
     none-since : (x y : Option ℕ) → x ≡ y → is_some x ≡ false → is_some y ≡ false

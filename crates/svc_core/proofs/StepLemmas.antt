@@ -36,7 +36,7 @@ use Rattle.svc_endpoints.specs.Uses.{serves_by}
 use Rattle.svc_endpoints.proofs.EndedLemmas.{loop-fits}
 use Rattle.svc_endpoints.proofs.EventLemmas.{stands-got}
 use Rattle.svc_boot.specs.BootData.{BootData}
-use Rattle.svc_boot.specs.ForkState.{is_free, is_parent_over}
+use Rattle.svc_boot.specs.ForkState.{may_run, is_parent_over}
 use Rattle.svc_boot.specs.BootState.{BootStands, is_refused, is_through, is_trying, has_come}
 use Rattle.svc_boot.specs.BootEffects.{end_of, is_complete_due, is_early, received}
 use Rattle.svc_boot.specs.BootFacts.{is_boot_event, is_fork_event}
@@ -176,7 +176,7 @@ through-same p b c alone begun = rw (alone, begun) refl
 
 -- an event that isn't of the fork comes only to a server that goes on
 pub free-of : (core : CoreData) (q : Record) (e : Event) → Represents core q → fits core.plan q e ≡ true → is_fork_event e ≡ false
-    → is_free core.plan core.boot.fork ≡ true
+    → may_run core.plan core.boot.fork ≡ true
 free-of core q e stands fit other = fit-free core.plan core.boot q stands.boot e other (and_parts (not (has_ended core.plan q)) (fits_row core.plan q e) fit).1
 
 pub no-child : (e : Event) → is_fork_event e ≡ false → is_side_child (Got e) ≡ false
@@ -222,7 +222,7 @@ got-loose core q e st o dr right stands on fit apart drain offer starts = record
 -- an event, and what is given up by it, where no fork is awaited
 pub strike : (core : CoreData) (q : Record) (e : Event) (st : StartsData) (d : EndpointsData) (b : BootData) (o : OfferData) (dr : DrainData)
     (copy : Option Message) (gave : List Action)
-    → Right core.plan q → Represents core q → is_on core.end ≡ true → fits core.plan q e ≡ true → is_free core.plan b.fork ≡ true
+    → Right core.plan q → Represents core q → is_on core.end ≡ true → fits core.plan q e ≡ true → may_run core.plan b.fork ≡ true
     → is_side_child (Got e) ≡ false → is_connection_event e ≡ false → IsGivingUp gave
     → DrainStands core.plan dr (over_since o.state) (Got e ∷ q) → dr.running ≡ core.drain.running → OfferStands core.plan o (Got e ∷ q)
     → StartsStand core.plan st (Got e ∷ q) → EndpointsStand core.plan d (tell (Got e ∷ q) gave)
@@ -241,7 +241,7 @@ strike core q e st d b o dr copy gave right stands on fit free other apart givin
           (foreign.stands-tell core.plan b (Got e ∷ q) gave (foreign.giving_up-other gave giving) free boot)
           (begun-tell core.plan (Got e ∷ q) (now (Got e ∷ q)) gave (giving-loose (now (Got e ∷ q)) gave giving)
           ∙ begun-got core.plan q e other ∙ stands.begun_is ∙ sym begun)
-          (λ r. and_from (is_free core.plan b.fork) (not core.plan.eager || b.complete) free
+          (λ r. and_from (may_run core.plan b.fork) (not core.plan.eager || b.complete) free
           (ap (λ c. not core.plan.eager || c) complete ∙ may-complete core.plan core.boot (stands.runs (sym running ∙ r))));
       free = free;
       quiet = λ h. giving-quiet (Got e ∷ q) gave giving refl;
@@ -294,7 +294,7 @@ module _ (core : CoreData) (q : Record) (e : Event) (right : Right core.plan q) 
       → AfterEvent (struck core st d b core.offer core.drain) None (tell (Got e ∷ q) gave)
   strike-plain other st d b gave apart giving starts ends boot fork begun complete ended =
       let may = may-tell core.plan (now q) (Got e ∷ q) gave (giving-loose (now q) gave giving) plain-may in
-      strike core q e st d b core.offer core.drain None gave right stands on fit (ap (is_free core.plan) fork ∙ free-of core q e stands fit other)
+      strike core q e st d b core.offer core.drain None gave right stands on fit (ap (may_run core.plan) fork ∙ free-of core q e stands fit other)
       (no-child e other) apart giving plain-drain refl plain-offer starts ends boot begun complete (ended may) (inr may)
       (λ due. absurd (let none_due = (settled-of core q stands on).offer.no_send in cc))
 

@@ -14,7 +14,7 @@ use Rattle.svc_record.specs.Validity.{IsInOrder, IsStartupOrder}
 use Rattle.svc_record.proofs.StartupLemmas.{startup-is, take-within}
 use Rattle.svc_endpoints.specs.EndpointsData.{EndpointsData}
 use Rattle.svc_boot.specs.BootData.{BootData}
-use Rattle.svc_boot.specs.ForkState.{is_free, is_parent_over}
+use Rattle.svc_boot.specs.ForkState.{may_run, is_parent_over}
 use Rattle.svc_boot.specs.BootState.{is_refused}
 use Rattle.svc_boot.proofs.BootEnds.{early-is}
 use Rattle.svc_boot.proofs.Settled.{free-on}
@@ -114,7 +114,7 @@ module _ (p : Plan) (order : List ℕ) (least : IsStartupOrder p order) (in_orde
   on_true true A a = a
   on_true false A a = tt
 
-  pub tested-so : is_free p b.fork ≡ true → is_tested p b ≡ true → is_refused b.receiving ≡ false → EndedSo p q
+  pub tested-so : may_run p b.fork ≡ true → is_tested p b ≡ true → is_refused b.receiving ≡ false → EndedSo p q
   tested-so free tested goes = record {
     ended = record {
       early = not_true (has_ended_early p q) _

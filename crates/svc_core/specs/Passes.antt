@@ -20,7 +20,7 @@ use Rattle.svc_record.specs.Told.{Tells}
 use Rattle.svc_endpoints.specs.EndpointsData.{EndpointsData, EndpointsRoom}
 use Rattle.svc_endpoints.specs.EndpointsState.{EndpointsStand}
 use Rattle.svc_boot.specs.BootData.{BootData}
-use Rattle.svc_boot.specs.ForkState.{is_free}
+use Rattle.svc_boot.specs.ForkState.{may_run}
 use Rattle.svc_boot.specs.BootState.{BootStands, is_refused, is_through}
 use Rattle.svc_offer.specs.OfferData.{OfferData}
 use Rattle.svc_offer.specs.OfferState.{OfferStands, over_since}
@@ -45,7 +45,7 @@ is_tested p b = p.test && b.begun
 
 -- services may start: no fork is awaited, and bootstrapping is complete, or needn't be
 abbrev pub may_start : Plan → BootData → Bool
-may_start p b = is_free p b.fork && (not p.eager || b.complete)
+may_start p b = may_run p b.fork && (not p.eager || b.complete)
 
 -- receiving hasn't ended the run, and bootstrapping is told to be complete exactly where nothing is left to receive
 pub record IsBootRipe (p : Plan) (b : BootData) : Type 0 where

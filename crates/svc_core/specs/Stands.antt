@@ -26,7 +26,7 @@ use Rattle.svc_record.specs.Told.{Tells}
 use Rattle.svc_endpoints.specs.EndpointsState.{EndpointsStand, last_at, is_binding, is_adopting, all_new}
 use Rattle.svc_endpoints.specs.Loops.{has_loop}
 use Rattle.svc_endpoints.specs.Uses.{serves_by, accepts_by}
-use Rattle.svc_boot.specs.ForkState.{is_free, is_asked, is_waiting}
+use Rattle.svc_boot.specs.ForkState.{may_run, is_asked, is_waiting}
 use Rattle.svc_boot.specs.BootState.{BootStands, is_trying, is_through}
 use Rattle.svc_boot.specs.BootEffects.{end_of, is_complete_due}
 use Rattle.svc_boot.specs.BootFacts.{IsBootSettled}
@@ -103,7 +103,7 @@ pub record MayBootstrap (core : CoreData) (q : Record) : Type 0 where
   pub earlier : EachEarlier (SettledRight core.plan) q
   pub fails : EachEarlier (FailsRight core.plan) q
   pub asks : EachEarlier (λ before. one_ask core.plan before ≡ true) q
-  pub free : is_free core.plan core.boot.fork ≡ true
+  pub free : may_run core.plan core.boot.fork ≡ true
   pub begins : has_begun core.plan q ≡ core.plan.eager
   pub unbegun : core.boot.begun ≡ false
   pub idle : core.drain.running ≡ false
@@ -116,7 +116,7 @@ pub record MayBootstrap (core : CoreData) (q : Record) : Type 0 where
 -- ended the run, it ended as is right; and where it may let services start, the run may end by that
 pub record AfterEvent (core : CoreData) (copy : Option Message) (q : Record) : Type 0 where
   pub going : Going core.plan core.starts core.endpoints core.boot core.offer core.drain core.connections q
-  pub free : is_free core.plan core.boot.fork ≡ true
+  pub free : may_run core.plan core.boot.fork ≡ true
   pub quiet : core.boot.begun ≡ false → is_quiet (last_step q) ≡ true
   pub alone : core.plan.upgrade ≡ false → core.boot.complete ≡ is_through core.plan core.boot
   pub ended : OnFalse (is_on (end_of core.plan core.boot)) (EndedSo core.plan q)
@@ -126,7 +126,7 @@ pub record AfterEvent (core : CoreData) (copy : Option Message) (q : Record) : T
 -- it was told where bootstrapping is complete, and services may be visited
 pub record AfterBootstrap (core : CoreData) (copy : Option Message) (q : Record) : Type 0 where
   pub going : Going core.plan core.starts core.endpoints core.boot core.offer core.drain core.connections q
-  pub free : is_free core.plan core.boot.fork ≡ true
+  pub free : may_run core.plan core.boot.fork ≡ true
   pub quiet : core.boot.begun ≡ false → is_quiet (last_step q) ≡ true
   pub goes_on : is_on (end_of core.plan core.boot) ≡ true
   pub ripe : IsBootRipe core.plan core.boot
@@ -136,7 +136,7 @@ pub record AfterBootstrap (core : CoreData) (copy : Option Message) (q : Record)
 -- the services were visited, where they may start, and what is left of the step may be told
 pub record AfterPass (core : CoreData) (copy : Option Message) (q : Record) : Type 0 where
   pub going : Going core.plan core.starts core.endpoints core.boot core.offer core.drain core.connections q
-  pub free : is_free core.plan core.boot.fork ≡ true
+  pub free : may_run core.plan core.boot.fork ≡ true
   pub ripe : IsBootRipe core.plan core.boot
   pub passed : OnTrue (may_start core.plan core.boot)
       (MatchBool (is_tested core.plan core.boot) ((k : ℕ) × TestedAt core.plan core.order k q) (VisitedUpTo core.plan core.order (length core.order) q))
@@ -146,7 +146,7 @@ pub record AfterPass (core : CoreData) (copy : Option Message) (q : Record) : Ty
 -- the run goes on in its bootstrapping: it runs where it may, and what is due of bootstrapping was told
 pub record AfterRetry (core : CoreData) (copy : Option Message) (q : Record) : Type 0 where
   pub going : Going core.plan core.starts core.endpoints core.boot core.offer core.drain core.connections q
-  pub free : is_free core.plan core.boot.fork ≡ true
+  pub free : may_run core.plan core.boot.fork ≡ true
   pub settled : IsBootSettled core.plan core.boot core.drain.moment
   pub untested : is_tested core.plan core.boot ≡ false
   pub visited : OnTrue (may_start core.plan core.boot) (VisitedUpTo core.plan core.order (length core.order) q)

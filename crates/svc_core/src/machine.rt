@@ -266,7 +266,7 @@ impl Core {
     fn may_start(&self) -> bool
         ensures { result ≡ may_start self.now.plan self.now.boot }
     {
-        self.boot.is_free(&self.plan) && (!self.plan.eager || self.boot.is_complete())
+        self.boot.may_run(&self.plan) && (!self.plan.eager || self.boot.is_complete())
     }
 
     /// The server runs, a handover is tried for again, and the offer and the signal are answered,

@@ -13,7 +13,7 @@ use Rattle.svc_fds.specs.declared.retry.SendNext.{SendNext}
 use Rattle.svc_fds.specs.declared.retry.SendNext.TheVariants as sends
 use Rattle.svc_fds.specs.declared.errors.SendError.{SendError}
 use Rattle.svc_fds.specs.declared.errors.SendError.TheVariants as send_errors
-use Rattle.svc_fds.specs.Patience.{Patience}
+use Rattle.svc_fds.specs.RetriesLeft.{RetriesLeft}
 use Rattle.svc_fds.specs.Retries.{absences, delays, send_next, after_sends, IsAfterSends}
 use Rattle.svc_base.specs.Calls.{Adds}
 use Rattle.svc_fds.specs.Channels.{SendFaults}
@@ -26,7 +26,7 @@ phase (sends.Send ms) = 1
 phase sends.Done = 0
 phase (sends.Refused error) = 0
 
-abbrev pub left : SendNext → Patience → ℕ
+abbrev pub left : SendNext → RetriesLeft → ℕ
 left next state = state.absences + state.delays + phase next
 
 -- a fault is what came last where the end is a failed transfer
@@ -38,7 +38,7 @@ FaultsAt (sends.Refused error) before now = error ≡ send_errors.Transfer → R
 
 -- what a sender keeps from one try to the next
 pub record Sending (limit : ℕ) (bytes fds : List ℕ) (before now : Option (List ChannelCall)) (faults_before faults_now : ℕ) (next : SendNext)
-    (state : Patience) : Type 0 where
+    (state : RetriesLeft) : Type 0 where
   pub answers : List SendAnswer
   pub run : IsSendRun limit answers
   pub told : Adds before now (sends_asked limit bytes fds answers)
@@ -71,7 +71,7 @@ step-faults limit earlier Sent before now then_now same cause = cause ∙ same
 step-faults limit earlier SendBusy before now then_now same cause = still_busy (ltb (delays earlier + 1) 20) (sends.Send 500) before then_now (cause ∙ same)
 step-faults limit earlier SendFailed before now then_now same cause = λ e. subst (λ b. Rose b then_now) same cause
 
-pub sending-start : (limit : ℕ) (bytes fds : List ℕ) (calls : Option (List ChannelCall)) (faults : ℕ) (state : Patience) → IsAfterSends limit [] state
+pub sending-start : (limit : ℕ) (bytes fds : List ℕ) (calls : Option (List ChannelCall)) (faults : ℕ) (state : RetriesLeft) → IsAfterSends limit [] state
     → Sending limit bytes fds calls calls faults faults (sends.Connect 0) state
 sending-start limit bytes fds calls faults state after = record {
   answers = [];
@@ -84,7 +84,7 @@ sending-start limit bytes fds calls faults state after = record {
 
 -- one try more
 pub sending-more : (limit : ℕ) (bytes fds : List ℕ) (before now then_now : Option (List ChannelCall)) (faults_before faults_now faults_then : ℕ)
-    (next then_next : SendNext) (state then_state : Patience) (answer : SendAnswer)
+    (next then_next : SendNext) (state then_state : RetriesLeft) (answer : SendAnswer)
     → Sending limit bytes fds before now faults_before faults_now next state
     → Adds now then_now (send_calls bytes fds next answer) → Answers next answer → SendFaults answer faults_now faults_then
     → ((limit : ℕ) (earlier : List SendAnswer) → IsAfterSends limit earlier state → then_next ≡ send_next limit earlier answer)
@@ -106,20 +106,20 @@ sending-more limit bytes fds before now then_now faults_before faults_now faults
           (same-faults next answer faults_before faults_now fits sending.faults) cause);
     }
 
-falls_absent : (b : Bool) (limit a : ℕ) (ms : ℕ) (state then_state : Patience) → ltb limit (a + 1) ≡ b → state.absences ≡ limit - a
+falls_absent : (b : Bool) (limit a : ℕ) (ms : ℕ) (state then_state : RetriesLeft) → ltb limit (a + 1) ≡ b → state.absences ≡ limit - a
     → then_state.absences ≡ limit - (a + 1) → then_state.delays ≡ state.delays
     → left (cond b (sends.Refused send_errors.NoReceiver) (sends.Connect 1000)) then_state < left (sends.Connect ms) state
 falls_absent true limit a ms state then_state test was is same = omega arith
 falls_absent false limit a ms state then_state test was is same = (let below = ltb-false limit (a + 1) test in omega arith)
 
-falls_busy : (b : Bool) (d : ℕ) (next again : SendNext) (state then_state : Patience) → ltb (d + 1) 20 ≡ b → 0 < phase next → phase again ≡ phase next
+falls_busy : (b : Bool) (d : ℕ) (next again : SendNext) (state then_state : RetriesLeft) → ltb (d + 1) 20 ≡ b → 0 < phase next → phase again ≡ phase next
     → state.delays ≡ 19 - d → then_state.delays ≡ 19 - (d + 1) → then_state.absences ≡ state.absences
     → left (cond b again (sends.Refused send_errors.StillBusy)) then_state < left next state
 falls_busy true d next again state then_state test some alike was is same = (let below = ltb-true (d + 1) 20 test in omega arith)
 falls_busy false d next again state then_state test some alike was is same = omega arith
 
 -- the tries come to an end
-falls : (limit : ℕ) (answers : List SendAnswer) (next : SendNext) (answer : SendAnswer) (state then_state : Patience) → Answers next answer
+falls : (limit : ℕ) (answers : List SendAnswer) (next : SendNext) (answer : SendAnswer) (state then_state : RetriesLeft) → Answers next answer
     → IsAfterSends limit answers state → IsAfterSends limit (answer ∷ answers) then_state
     → left (send_next limit answers answer) then_state < left next state
 falls limit answers (sends.Connect ms) Connected state then_state fits was is =
@@ -150,7 +150,7 @@ falls limit answers sends.Done answer state then_state fits was is = absurd fits
 falls limit answers (sends.Refused error) answer state then_state fits was is = absurd fits
 
 pub sending-falls : (limit : ℕ) (bytes fds : List ℕ) (before now : Option (List ChannelCall)) (faults_before faults_now : ℕ) (next then_next : SendNext)
-    (state then_state : Patience) (answer : SendAnswer)
+    (state then_state : RetriesLeft) (answer : SendAnswer)
     → Sending limit bytes fds before now faults_before faults_now next state → Answers next answer
     → ((limit : ℕ) (earlier : List SendAnswer) → IsAfterSends limit earlier state → then_next ≡ send_next limit earlier answer)
     → ((limit : ℕ) (earlier : List SendAnswer) → IsAfterSends limit earlier state → IsAfterSends limit (answer ∷ earlier) then_state)
@@ -163,8 +163,8 @@ ends_after : (next after : SendNext) (r : Result ℕ SendError) → next ≡ aft
 ends_after next after r same ends = subst (λ n. SendEnds n r) same ends
 
 -- the end of the tries
-pub sending-ends : (limit : ℕ) (bytes fds : List ℕ) (before now : Option (List ChannelCall)) (faults_before faults_now : ℕ) (next : SendNext) (state : Patience)
-    (r : Result ℕ SendError)
+pub sending-ends : (limit : ℕ) (bytes fds : List ℕ) (before now : Option (List ChannelCall)) (faults_before faults_now : ℕ) (next : SendNext)
+    (state : RetriesLeft) (r : Result ℕ SendError)
     → Sending limit bytes fds before now faults_before faults_now next state → SendEnds next r → SendsBy limit bytes fds before now r
 sending-ends limit bytes fds before now faults_before faults_now next state r sending ends = record {
   answers = sending.answers;

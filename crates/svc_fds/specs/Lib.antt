@@ -1,7 +1,7 @@
 pub mod FdTable
 pub mod Tables
 pub mod Places
-pub mod Patience
+pub mod RetriesLeft
 pub mod Retries
 pub mod Lists
 pub mod Messages

@@ -10,7 +10,7 @@ use Rattle.svc_fds.specs.declared.retry.ReceiveNext.{ReceiveNext}
 use Rattle.svc_fds.specs.declared.retry.ReceiveNext.TheVariants as receives
 use Rattle.svc_fds.specs.declared.errors.SendError.TheVariants as send_errors
 use Rattle.svc_fds.specs.declared.errors.ReceiveError.TheVariants as receive_errors
-use Rattle.svc_fds.specs.Patience.{Patience}
+use Rattle.svc_fds.specs.RetriesLeft.{RetriesLeft}
 
 -- the receiver wasn't there
 abbrev pub is_absence : SendAnswer → Bool
@@ -57,7 +57,7 @@ after_sends limit [] = sends.Connect 0
 after_sends limit (answer ∷ earlier) = send_next limit earlier answer
 
 -- the state after these answers
-pub record IsAfterSends (limit : ℕ) (answers : List SendAnswer) (state : Patience) : Type 0 where
+pub record IsAfterSends (limit : ℕ) (answers : List SendAnswer) (state : RetriesLeft) : Type 0 where
   pub absences : state.absences ≡ limit - absences answers
   pub delays : state.delays ≡ 19 - delays answers
 

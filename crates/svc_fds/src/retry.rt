@@ -81,9 +81,9 @@ pub struct SendRetry {
 }
 
 impl Model for SendRetry {
-    ghost use Rattle.svc_fds.specs.Patience.{Patience};
+    ghost use Rattle.svc_fds.specs.RetriesLeft.{RetriesLeft};
 
-    ghost Value = { Patience };
+    ghost Value = { RetriesLeft };
 
     ghost view = { λ retry. record { absences = retry.absences; delays = retry.delays } };
 }

@@ -5,7 +5,7 @@ use Rattle.std.proofs.lemmas.Bool.{and_parts, or_parts}
 use Rattle.std.proofs.lemmas.Bool.Decides.{nat_tests}
 use Rattle.svc_fds.specs.declared.retry.SendAnswer.{SendAnswer}
 use Rattle.svc_fds.specs.declared.retry.SendAnswer.TheVariants as answers
-use Rattle.svc_fds.specs.Patience.{Patience}
+use Rattle.svc_fds.specs.RetriesLeft.{RetriesLeft}
 use Rattle.svc_record.specs.declared.plan.Plan.{Plan}
 use Rattle.svc_record.specs.declared.entry.Entry.TheVariants.{Got}
 use Rattle.svc_record.specs.declared.event.Event.{Event}
@@ -18,7 +18,7 @@ use Rattle.svc_offer.specs.declared.offering.Offering.{Offering}
 use Rattle.svc_offer.specs.declared.offering.Offering.TheVariants as steps
 use Rattle.svc_offer.specs.OfferData.{OfferData}
 use Rattle.svc_offer.specs.OfferState.{OfferStands, is_offering, is_connecting, is_sending, is_asking, is_going, over_since, rests_in, sends_in}
-use Rattle.svc_offer.specs.OfferEffects.{answered, answered_state, patience_after, event_of, is_awaited}
+use Rattle.svc_offer.specs.OfferEffects.{answered, answered_state, retries_after, event_of, is_awaited}
 use Rattle.svc_offer.proofs.StateFacts.{since-here, going-offers, going-on, next-going, connecting-asks, sending-asks, asking-goes}
 use Rattle.svc_offer.proofs.Cuts.{uncut}
 
@@ -51,7 +51,7 @@ fewer : (n : ℕ) → nat_le 20 n ≡ false → nat_lt n 20 ≡ true
 fewer n h = grind (arith, nat_tests)
 
 -- what an answer leaves, by what the record says then
-record Leaves (p : Plan) (d : OfferData) (q : Record) (e : Event) (x : Offering) (n : Patience) (moment : ℕ) : Type 0 where
+record Leaves (p : Plan) (d : OfferData) (q : Record) (e : Event) (x : Offering) (n : RetriesLeft) (moment : ℕ) : Type 0 where
   offering : is_offering x ≡ true
   quiet : is_asking x ≡ false
   offers : has_offer p (Got e ∷ q) ≡ has_offer p q
@@ -66,8 +66,8 @@ record Leaves (p : Plan) (d : OfferData) (q : Record) (e : Event) (x : Offering)
   absences : n.absences ≡ p.limit - times is_not_there (Got e ∷ q)
   delays : n.delays ≡ 19 - times is_busy_answer (Got e ∷ q)
 
-leaves-stands : (p : Plan) (d : OfferData) (q : Record) (e : Event) (x : Offering) (n : Patience) (moment : ℕ) → is_going d.state ≡ true
-    → OfferStands p d q → Leaves p d q e x n moment → OfferStands p (record { state = x; message = d.message; patience = n }) (Got e ∷ q)
+leaves-stands : (p : Plan) (d : OfferData) (q : Record) (e : Event) (x : Offering) (n : RetriesLeft) (moment : ℕ) → is_going d.state ≡ true
+    → OfferStands p d q → Leaves p d q e x n moment → OfferStands p (record { state = x; message = d.message; retries = n }) (Got e ∷ q)
 leaves-stands p d q e x n moment going s l =
     let offers : has_offer p (Got e ∷ q) ≡ true = l.offers ∙ s.offers_is ∙ going-offers d.state going in
     let quiet = or_parts (is_connecting x) (is_sending x) l.quiet in
@@ -153,9 +153,9 @@ module _ (p : Plan) (d : OfferData) (q : Record) (moment : ℕ) (at : moment ≡
 
   after-connected : is_send_open q ≡ false
       → OfferStands p
-      (record { state = answered_state d.patience answers.Connected moment; message = d.message; patience = patience_after d.patience answers.Connected })
+      (record { state = answered_state d.retries answers.Connected moment; message = d.message; retries = retries_after d.retries answers.Connected })
       (Got Connected ∷ q)
-  after-connected other = leaves-stands p d q Connected steps.Connected (patience_after d.patience answers.Connected) moment going s (record {
+  after-connected other = leaves-stands p d q Connected steps.Connected (retries_after d.retries answers.Connected) moment going s (record {
     offering = refl;
     quiet = refl;
     offers = refl;
@@ -173,27 +173,27 @@ module _ (p : Plan) (d : OfferData) (q : Record) (moment : ℕ) (at : moment ≡
 
   after-not_there : is_send_open q ≡ false
       → OfferStands p
-      (record { state = answered_state d.patience answers.NotThere moment; message = d.message; patience = patience_after d.patience answers.NotThere })
+      (record { state = answered_state d.retries answers.NotThere moment; message = d.message; retries = retries_after d.retries answers.NotThere })
       (Got NotThere ∷ q)
   after-not_there other =
-      leaves-stands p d q NotThere (left (nat_lt d.patience.absences 1) (steps.Absent moment) moment)
-      (patience_after d.patience answers.NotThere) moment going s (record {
-        offering = left-offers (nat_lt d.patience.absences 1) (steps.Absent moment) moment refl;
-        quiet = left-quiet (nat_lt d.patience.absences 1) (steps.Absent moment) moment refl;
+      leaves-stands p d q NotThere (left (nat_lt d.retries.absences 1) (steps.Absent moment) moment)
+      (retries_after d.retries answers.NotThere) moment going s (record {
+        offering = left-offers (nat_lt d.retries.absences 1) (steps.Absent moment) moment refl;
+        quiet = left-quiet (nat_lt d.retries.absences 1) (steps.Absent moment) moment refl;
         offers = refl;
         same_table = refl;
         over = by-absent (is_upgrade (signal_of q)) (not (is_empty_table (table p q)) && (not (is_written (encode (table p q))) || has_cut q))
             (has is_last_answer q) (nat_lt p.limit (times is_not_there q + 1)) (nat_le 20 (times is_busy_answer q))
-            (nat_lt d.patience.absences 1) g.upgrade g.written g.no_last g.delays_few
-            (absent-last p.limit (times is_not_there q) d.patience.absences g.absences_few s.absences_are)
-            ∙ left-over (nat_lt d.patience.absences 1) (steps.Absent moment) moment refl;
-        moment_is = λ n h. left-moment (nat_lt d.patience.absences 1) (steps.Absent moment) moment n refl h;
+            (nat_lt d.retries.absences 1) g.upgrade g.written g.no_last g.delays_few
+            (absent-last p.limit (times is_not_there q) d.retries.absences g.absences_few s.absences_are)
+            ∙ left-over (nat_lt d.retries.absences 1) (steps.Absent moment) moment refl;
+        moment_is = λ n h. left-moment (nat_lt d.retries.absences 1) (steps.Absent moment) moment n refl h;
         now_is = sym at;
         connect_answered = refl;
         send_answered = other;
-        rests = λ h t. left-rests (nat_lt d.patience.absences 1) (steps.Absent moment) moment t (nat_lt (t - now q) 1000)
+        rests = λ h t. left-rests (nat_lt d.retries.absences 1) (steps.Absent moment) moment t (nat_lt (t - now q) 1000)
             (ap (λ (n : ℕ). nat_lt (t - n) 1000) (sym at)) h;
-        next = λ h. left-next (nat_lt d.patience.absences 1) (steps.Absent moment) moment false refl h;
+        next = λ h. left-next (nat_lt d.retries.absences 1) (steps.Absent moment) moment false refl h;
         absences = let e = s.absences_are in omega arith;
         delays = s.delays_are;
       })
@@ -201,30 +201,30 @@ module _ (p : Plan) (d : OfferData) (q : Record) (moment : ℕ) (at : moment ≡
   after-still_connecting : is_send_open q ≡ false
       → OfferStands p
       (record {
-        state = answered_state d.patience answers.StillConnecting moment;
+        state = answered_state d.retries answers.StillConnecting moment;
         message = d.message;
-        patience = patience_after d.patience answers.StillConnecting;
+        retries = retries_after d.retries answers.StillConnecting;
       }) (Got StillConnecting ∷ q)
   after-still_connecting other =
-      leaves-stands p d q StillConnecting (left (nat_lt d.patience.delays 1) (steps.Delayed moment) moment)
-      (patience_after d.patience answers.StillConnecting) moment going s (record {
-        offering = left-offers (nat_lt d.patience.delays 1) (steps.Delayed moment) moment refl;
-        quiet = left-quiet (nat_lt d.patience.delays 1) (steps.Delayed moment) moment refl;
+      leaves-stands p d q StillConnecting (left (nat_lt d.retries.delays 1) (steps.Delayed moment) moment)
+      (retries_after d.retries answers.StillConnecting) moment going s (record {
+        offering = left-offers (nat_lt d.retries.delays 1) (steps.Delayed moment) moment refl;
+        quiet = left-quiet (nat_lt d.retries.delays 1) (steps.Delayed moment) moment refl;
         offers = refl;
         same_table = refl;
         over = by-delay (is_upgrade (signal_of q)) (not (is_empty_table (table p q)) && (not (is_written (encode (table p q))) || has_cut q))
             (has is_last_answer q)
             (nat_lt p.limit (times is_not_there q)) (nat_le 20 (times is_busy_answer q + 1))
-            (nat_lt d.patience.delays 1) g.upgrade g.written g.no_last g.absences_few
-            (delay-last (times is_busy_answer q) d.patience.delays g.delays_few s.delays_are)
-            ∙ left-over (nat_lt d.patience.delays 1) (steps.Delayed moment) moment refl;
-        moment_is = λ n h. left-moment (nat_lt d.patience.delays 1) (steps.Delayed moment) moment n refl h;
+            (nat_lt d.retries.delays 1) g.upgrade g.written g.no_last g.absences_few
+            (delay-last (times is_busy_answer q) d.retries.delays g.delays_few s.delays_are)
+            ∙ left-over (nat_lt d.retries.delays 1) (steps.Delayed moment) moment refl;
+        moment_is = λ n h. left-moment (nat_lt d.retries.delays 1) (steps.Delayed moment) moment n refl h;
         now_is = sym at;
         connect_answered = refl;
         send_answered = other;
-        rests = λ h t. left-rests (nat_lt d.patience.delays 1) (steps.Delayed moment) moment t (nat_lt (t - now q) 500)
+        rests = λ h t. left-rests (nat_lt d.retries.delays 1) (steps.Delayed moment) moment t (nat_lt (t - now q) 500)
             (ap (λ (n : ℕ). nat_lt (t - n) 500) (sym at)) h;
-        next = λ h. left-next (nat_lt d.patience.delays 1) (steps.Delayed moment) moment false refl h;
+        next = λ h. left-next (nat_lt d.retries.delays 1) (steps.Delayed moment) moment false refl h;
         absences = s.absences_are;
         delays = let e = s.delays_are in omega arith;
       })
@@ -232,11 +232,11 @@ module _ (p : Plan) (d : OfferData) (q : Record) (moment : ℕ) (at : moment ≡
   after-connect_failed : is_send_open q ≡ false
       → OfferStands p
       (record {
-        state = answered_state d.patience answers.ConnectFailed moment;
+        state = answered_state d.retries answers.ConnectFailed moment;
         message = d.message;
-        patience = patience_after d.patience answers.ConnectFailed;
+        retries = retries_after d.retries answers.ConnectFailed;
       }) (Got ConnectFailed ∷ q)
-  after-connect_failed other = leaves-stands p d q ConnectFailed (steps.Over moment) (patience_after d.patience answers.ConnectFailed) moment going s (record {
+  after-connect_failed other = leaves-stands p d q ConnectFailed (steps.Over moment) (retries_after d.retries answers.ConnectFailed) moment going s (record {
     offering = refl;
     quiet = refl;
     offers = refl;
@@ -254,9 +254,9 @@ module _ (p : Plan) (d : OfferData) (q : Record) (moment : ℕ) (at : moment ≡
   })
 
   after-sent : is_connect_open q ≡ false
-      → OfferStands p (record { state = answered_state d.patience answers.Sent moment; message = d.message; patience = patience_after d.patience answers.Sent })
+      → OfferStands p (record { state = answered_state d.retries answers.Sent moment; message = d.message; retries = retries_after d.retries answers.Sent })
       (Got Sent ∷ q)
-  after-sent other = leaves-stands p d q Sent (steps.Over moment) (patience_after d.patience answers.Sent) moment going s (record {
+  after-sent other = leaves-stands p d q Sent (steps.Over moment) (retries_after d.retries answers.Sent) moment going s (record {
     offering = refl;
     quiet = refl;
     offers = refl;
@@ -275,37 +275,37 @@ module _ (p : Plan) (d : OfferData) (q : Record) (moment : ℕ) (at : moment ≡
 
   after-send_busy : is_connect_open q ≡ false
       → OfferStands p
-      (record { state = answered_state d.patience answers.SendBusy moment; message = d.message; patience = patience_after d.patience answers.SendBusy })
+      (record { state = answered_state d.retries answers.SendBusy moment; message = d.message; retries = retries_after d.retries answers.SendBusy })
       (Got SendBusy ∷ q)
   after-send_busy other =
-      leaves-stands p d q SendBusy (left (nat_lt d.patience.delays 1) (steps.Stalled moment) moment) (patience_after d.patience answers.SendBusy) moment going s
+      leaves-stands p d q SendBusy (left (nat_lt d.retries.delays 1) (steps.Stalled moment) moment) (retries_after d.retries answers.SendBusy) moment going s
       (record {
-        offering = left-offers (nat_lt d.patience.delays 1) (steps.Stalled moment) moment refl;
-        quiet = left-quiet (nat_lt d.patience.delays 1) (steps.Stalled moment) moment refl;
+        offering = left-offers (nat_lt d.retries.delays 1) (steps.Stalled moment) moment refl;
+        quiet = left-quiet (nat_lt d.retries.delays 1) (steps.Stalled moment) moment refl;
         offers = refl;
         same_table = refl;
         over = by-delay (is_upgrade (signal_of q)) (not (is_empty_table (table p q)) && (not (is_written (encode (table p q))) || has_cut q))
             (has is_last_answer q)
             (nat_lt p.limit (times is_not_there q)) (nat_le 20 (times is_busy_answer q + 1))
-            (nat_lt d.patience.delays 1) g.upgrade g.written g.no_last g.absences_few
-            (delay-last (times is_busy_answer q) d.patience.delays g.delays_few s.delays_are)
-            ∙ left-over (nat_lt d.patience.delays 1) (steps.Stalled moment) moment refl;
-        moment_is = λ n h. left-moment (nat_lt d.patience.delays 1) (steps.Stalled moment) moment n refl h;
+            (nat_lt d.retries.delays 1) g.upgrade g.written g.no_last g.absences_few
+            (delay-last (times is_busy_answer q) d.retries.delays g.delays_few s.delays_are)
+            ∙ left-over (nat_lt d.retries.delays 1) (steps.Stalled moment) moment refl;
+        moment_is = λ n h. left-moment (nat_lt d.retries.delays 1) (steps.Stalled moment) moment n refl h;
         now_is = sym at;
         connect_answered = other;
         send_answered = refl;
-        rests = λ h t. left-rests (nat_lt d.patience.delays 1) (steps.Stalled moment) moment t (nat_lt (t - now q) 500)
+        rests = λ h t. left-rests (nat_lt d.retries.delays 1) (steps.Stalled moment) moment t (nat_lt (t - now q) 500)
             (ap (λ (n : ℕ). nat_lt (t - n) 500) (sym at)) h;
-        next = λ h. left-next (nat_lt d.patience.delays 1) (steps.Stalled moment) moment true refl h;
+        next = λ h. left-next (nat_lt d.retries.delays 1) (steps.Stalled moment) moment true refl h;
         absences = s.absences_are;
         delays = let e = s.delays_are in omega arith;
       })
 
   after-send_failed : is_connect_open q ≡ false
       → OfferStands p
-      (record { state = answered_state d.patience answers.SendFailed moment; message = d.message; patience = patience_after d.patience answers.SendFailed })
+      (record { state = answered_state d.retries answers.SendFailed moment; message = d.message; retries = retries_after d.retries answers.SendFailed })
       (Got SendFailed ∷ q)
-  after-send_failed other = leaves-stands p d q SendFailed (steps.Over moment) (patience_after d.patience answers.SendFailed) moment going s (record {
+  after-send_failed other = leaves-stands p d q SendFailed (steps.Over moment) (retries_after d.retries answers.SendFailed) moment going s (record {
     offering = refl;
     quiet = refl;
     offers = refl;

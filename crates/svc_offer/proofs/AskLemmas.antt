@@ -97,7 +97,7 @@ module _ (p : Plan) (d : OfferData) (q : Record) (moment : ℕ) (sends : Bool) (
   retry : not (answer_rests (now q) q) ≡ true
   retry = no-rest (answer_rests (now q) q) (rests-over (now q) (same-time (now q)))
 
-  connect-stands : sends ≡ false → OfferStands p (record { state = Connecting; message = d.message; patience = d.patience }) (Told Connect ∷ q)
+  connect-stands : sends ≡ false → OfferStands p (record { state = Connecting; message = d.message; retries = d.retries }) (Told Connect ∷ q)
   connect-stands first = record {
     offers_is = s.offers_is ∙ going-offers d.state going;
     over_is = s.over_is ∙ going-on d.state going;
@@ -119,7 +119,7 @@ module _ (p : Plan) (d : OfferData) (q : Record) (moment : ℕ) (sends : Bool) (
   }
 
   send-stands : sends ≡ true → (m : Option Message) → m ≡ d.message
-      → OfferStands p (record { state = Sending; message = d.message; patience = d.patience }) (tell q (send_told m))
+      → OfferStands p (record { state = Sending; message = d.message; retries = d.retries }) (tell q (send_told m))
   send-stands second None is = absurd (s.written going (sym is))
   send-stands second (Some w) is = record {
     offers_is = s.offers_is ∙ going-offers d.state going;
@@ -154,7 +154,7 @@ module _ (p : Plan) (d : OfferData) (q : Record) (moment : ℕ) (sends : Bool) (
 asked-by : (p : Plan) (d : OfferData) (q : Record) (moment : ℕ) (copy : Option Message) (connects sends : Bool) → is_connect_due d.state moment ≡ connects
     → is_send_due d.state moment ≡ sends → moment ≡ now q → (sends ≡ true → copy ≡ d.message)
     → OfferStands p d q
-    → OfferStands p (record { state = if connects then Connecting else (if sends then Sending else d.state); message = d.message; patience = d.patience })
+    → OfferStands p (record { state = if connects then Connecting else (if sends then Sending else d.state); message = d.message; retries = d.retries })
     (tell q (if connects then Connect ∷ [] else (if sends then send_told copy else [])))
 asked-by p d q moment copy true sends c n at same s = connect-stands p d q moment false at s (connect-next d.state moment c) refl
 asked-by p d q moment copy false true c n at same s = send-stands p d q moment true at s (send-next d.state moment n) refl copy (same refl)

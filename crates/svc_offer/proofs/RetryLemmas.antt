@@ -8,9 +8,9 @@ use Rattle.svc_fds.specs.declared.retry.SendNext.{SendNext}
 use Rattle.svc_fds.specs.declared.retry.SendNext.TheVariants.{Connect, Send, Done, Refused}
 use Rattle.svc_fds.specs.declared.errors.SendError.{SendError}
 use Rattle.svc_fds.specs.declared.errors.SendError.TheVariants.{NoReceiver, StillBusy}
-use Rattle.svc_fds.specs.Patience.{Patience}
+use Rattle.svc_fds.specs.RetriesLeft.{RetriesLeft}
 use Rattle.svc_fds.specs.Retries.{IsAfterSends, send_next, absences, delays}
-use Rattle.svc_offer.specs.OfferEffects.{ends_by, patience_after}
+use Rattle.svc_offer.specs.OfferEffects.{ends_by, retries_after}
 
 -- so many busy answers
 abbrev pub waits : ℕ → List SendAnswer
@@ -25,8 +25,8 @@ absences-waits : (n : ℕ) → absences (waits n) ≡ 0
 absences-waits zero = refl
 absences-waits (suc n) = let e = absences-waits n in omega arith
 
--- a patience is what answers leave that use up as much of it
-pub after-waits : (n : Patience) → n.delays ≤ 19 → IsAfterSends n.absences (waits (19 - n.delays)) n
+-- what answers leave that use up as much of the retries
+pub after-waits : (n : RetriesLeft) → n.delays ≤ 19 → IsAfterSends n.absences (waits (19 - n.delays)) n
 after-waits n few = let a = absences-waits (19 - n.delays) in let b = delays-waits (19 - n.delays) in record { absences = omega arith; delays = omega arith }
 
 -- nothing comes next
@@ -55,7 +55,7 @@ delay-last : (n left : ℕ) → left ≤ 19 → n ≡ 19 - left → nat_lt (n + 
 delay-last n left few e h = grind (arith, nat_tests)
 
 -- the offer ends where nothing comes next
-pub ends-is : (n : Patience) (answer : SendAnswer) → n.delays ≤ 19 → is_end (send_next n.absences (waits (19 - n.delays)) answer) ≡ ends_by n answer
+pub ends-is : (n : RetriesLeft) (answer : SendAnswer) → n.delays ≤ 19 → is_end (send_next n.absences (waits (19 - n.delays)) answer) ≡ ends_by n answer
 ends-is n Connected few = refl
 ends-is n NotThere few =
     end-if (nat_lt n.absences (absences (waits (19 - n.delays)) + 1)) NoReceiver 1000
@@ -72,39 +72,39 @@ ends-is n SendBusy few =
     (delay-goes (delays (waits (19 - n.delays))) n.delays few e) (delay-last (delays (waits (19 - n.delays))) n.delays few e)
 ends-is n SendFailed few = refl
 
-abbrev patience-of : ℕ → ℕ → Patience
-patience-of a b = record { absences = a; delays = b }
+abbrev retries-of : ℕ → ℕ → RetriesLeft
+retries-of a b = record { absences = a; delays = b }
 
-pub same-patience : (x y : Patience) → x.absences ≡ y.absences → x.delays ≡ y.delays → x ≡ y
-same-patience x y a b = ap (λ (k : ℕ). patience-of k x.delays) a ∙ ap (λ (k : ℕ). patience-of y.absences k) b
+pub same-retries : (x y : RetriesLeft) → x.absences ≡ y.absences → x.delays ≡ y.delays → x ≡ y
+same-retries x y a b = ap (λ (k : ℕ). retries-of k x.delays) a ∙ ap (λ (k : ℕ). retries-of y.absences k) b
 
 -- and so much is borne after it
-pub patience-is : (n x : Patience) (answer : SendAnswer) → n.delays ≤ 19 → IsAfterSends n.absences (answer ∷ waits (19 - n.delays)) x
-    → x ≡ patience_after n answer
-patience-is n x Connected few after =
-    same-patience x n (let a = after.absences in let e = absences-waits (19 - n.delays) in omega arith)
+pub retries-is : (n x : RetriesLeft) (answer : SendAnswer) → n.delays ≤ 19 → IsAfterSends n.absences (answer ∷ waits (19 - n.delays)) x
+    → x ≡ retries_after n answer
+retries-is n x Connected few after =
+    same-retries x n (let a = after.absences in let e = absences-waits (19 - n.delays) in omega arith)
     (let b = after.delays in let e = delays-waits (19 - n.delays) in omega arith)
-patience-is n x NotThere few after =
-    same-patience x (patience_after n NotThere) (let a = after.absences in let e = absences-waits (19 - n.delays) in omega arith)
+retries-is n x NotThere few after =
+    same-retries x (retries_after n NotThere) (let a = after.absences in let e = absences-waits (19 - n.delays) in omega arith)
     (let b = after.delays in let e = delays-waits (19 - n.delays) in omega arith)
-patience-is n x StillConnecting few after =
-    same-patience x (patience_after n StillConnecting) (let a = after.absences in let e = absences-waits (19 - n.delays) in omega arith)
+retries-is n x StillConnecting few after =
+    same-retries x (retries_after n StillConnecting) (let a = after.absences in let e = absences-waits (19 - n.delays) in omega arith)
     (let b = after.delays in let e = delays-waits (19 - n.delays) in omega arith)
-patience-is n x ConnectFailed few after =
-    same-patience x n (let a = after.absences in let e = absences-waits (19 - n.delays) in omega arith)
+retries-is n x ConnectFailed few after =
+    same-retries x n (let a = after.absences in let e = absences-waits (19 - n.delays) in omega arith)
     (let b = after.delays in let e = delays-waits (19 - n.delays) in omega arith)
-patience-is n x Sent few after =
-    same-patience x n (let a = after.absences in let e = absences-waits (19 - n.delays) in omega arith)
+retries-is n x Sent few after =
+    same-retries x n (let a = after.absences in let e = absences-waits (19 - n.delays) in omega arith)
     (let b = after.delays in let e = delays-waits (19 - n.delays) in omega arith)
-patience-is n x SendBusy few after =
-    same-patience x (patience_after n SendBusy) (let a = after.absences in let e = absences-waits (19 - n.delays) in omega arith)
+retries-is n x SendBusy few after =
+    same-retries x (retries_after n SendBusy) (let a = after.absences in let e = absences-waits (19 - n.delays) in omega arith)
     (let b = after.delays in let e = delays-waits (19 - n.delays) in omega arith)
-patience-is n x SendFailed few after =
-    same-patience x n (let a = after.absences in let e = absences-waits (19 - n.delays) in omega arith)
+retries-is n x SendFailed few after =
+    same-retries x n (let a = after.absences in let e = absences-waits (19 - n.delays) in omega arith)
     (let b = after.delays in let e = delays-waits (19 - n.delays) in omega arith)
 
 -- whether the offer ends, by what the retry answered
-pub ended : (n : Patience) (answer : SendAnswer) (next : SendNext) → n.delays ≤ 19 → next ≡ send_next n.absences (waits (19 - n.delays)) answer
+pub ended : (n : RetriesLeft) (answer : SendAnswer) (next : SendNext) → n.delays ≤ 19 → next ≡ send_next n.absences (waits (19 - n.delays)) answer
     → is_end next ≡ ends_by n answer
 ended n answer next few is = ap is_end is ∙ ends-is n answer few
 

@@ -3,7 +3,7 @@ use Rattle.std.specs.Prelude.{ℕ, Bool, true, false, ◌-◌, List, [], ◌∷�
 use Rattle.svc_fds.specs.declared.encoding.Message.{Message}
 use Rattle.svc_fds.specs.declared.retry.SendAnswer.{SendAnswer}
 use Rattle.svc_fds.specs.declared.retry.SendAnswer.TheVariants as answers
-use Rattle.svc_fds.specs.Patience.{Patience}
+use Rattle.svc_fds.specs.RetriesLeft.{RetriesLeft}
 use Rattle.svc_record.specs.declared.action.Action.{Action}
 use Rattle.svc_record.specs.declared.action.Action.TheVariants.{Connect, Send}
 use Rattle.svc_record.specs.declared.event.Event.{Event}
@@ -15,7 +15,7 @@ use Rattle.svc_offer.specs.OfferState.{is_connect_due, is_send_due, is_stall_ove
 
 -- nothing is offered, and so many absences are borne
 abbrev pub nothing : ℕ → OfferData
-nothing limit = record { state = Nothing; message = None; patience = record { absences = limit; delays = 19 } }
+nothing limit = record { state = Nothing; message = None; retries = record { absences = limit; delays = 19 } }
 
 -- the event of an answer
 abbrev pub event_of : SendAnswer → Event
@@ -48,10 +48,10 @@ first_state None moment = Over moment
 
 -- the offer begins
 abbrev pub begun : Option Message → ℕ → OfferData → OfferData
-begun message moment d = record { state = first_state message moment; message = message; patience = d.patience }
+begun message moment d = record { state = first_state message moment; message = message; retries = d.retries }
 
 -- the offer ends by the answer, where so much is borne
-abbrev pub ends_by : Patience → SendAnswer → Bool
+abbrev pub ends_by : RetriesLeft → SendAnswer → Bool
 ends_by n answers.Connected = false
 ends_by n answers.NotThere = nat_lt n.absences 1
 ends_by n answers.StillConnecting = nat_lt n.delays 1
@@ -71,22 +71,22 @@ state_after answers.SendBusy moment = Stalled moment
 state_after answers.SendFailed moment = Over moment
 
 -- what an answer at this moment leaves
-abbrev pub answered_state : Patience → SendAnswer → ℕ → Offering
+abbrev pub answered_state : RetriesLeft → SendAnswer → ℕ → Offering
 answered_state n answer moment = if ends_by n answer then Over moment else state_after answer moment
 
 -- and how much more is borne
-abbrev pub patience_after : Patience → SendAnswer → Patience
-patience_after n answers.Connected = n
-patience_after n answers.NotThere = record { absences = n.absences - 1; delays = n.delays }
-patience_after n answers.StillConnecting = record { absences = n.absences; delays = n.delays - 1 }
-patience_after n answers.ConnectFailed = n
-patience_after n answers.Sent = n
-patience_after n answers.SendBusy = record { absences = n.absences; delays = n.delays - 1 }
-patience_after n answers.SendFailed = n
+abbrev pub retries_after : RetriesLeft → SendAnswer → RetriesLeft
+retries_after n answers.Connected = n
+retries_after n answers.NotThere = record { absences = n.absences - 1; delays = n.delays }
+retries_after n answers.StillConnecting = record { absences = n.absences; delays = n.delays - 1 }
+retries_after n answers.ConnectFailed = n
+retries_after n answers.Sent = n
+retries_after n answers.SendBusy = record { absences = n.absences; delays = n.delays - 1 }
+retries_after n answers.SendFailed = n
 
 -- the part after an answer
 abbrev pub answered : SendAnswer → ℕ → OfferData → OfferData
-answered answer moment d = record { state = answered_state d.patience answer moment; message = d.message; patience = patience_after d.patience answer }
+answered answer moment d = record { state = answered_state d.retries answer moment; message = d.message; retries = retries_after d.retries answer }
 
 -- what a cut at this moment leaves: an offer that goes on is over
 abbrev pub cut_state : Offering → ℕ → Offering
@@ -96,7 +96,7 @@ cut_state _ moment = Over moment
 
 -- the part after a cut
 abbrev pub cut_off : ℕ → OfferData → OfferData
-cut_off moment d = record { state = cut_state d.state moment; message = d.message; patience = d.patience }
+cut_off moment d = record { state = cut_state d.state moment; message = d.message; retries = d.retries }
 
 -- the send of a message
 abbrev pub send_told : Option Message → List Action
@@ -113,7 +113,7 @@ asked d moment =
     record {
       state = if is_connect_due d.state moment then Connecting else (if is_send_due d.state moment then Sending else d.state);
       message = d.message;
-      patience = d.patience;
+      retries = d.retries;
     }
 
 -- a send falls due by the event

@@ -120,9 +120,9 @@ pub record OfferStands (p : Plan) (d : OfferData) (q : Record) : Type 0 where
   pub next_is : tells_next d.state ≡ true → sends_next q ≡ sends_in d.state
   pub message_is : is_going d.state ≡ true → d.message ≡ encode (table p q)
   pub written : is_going d.state ≡ true → (d.message ≡ None → ⊥)
-  pub absences_are : d.patience.absences ≡ p.limit - times is_not_there q
+  pub absences_are : d.retries.absences ≡ p.limit - times is_not_there q
   pub absences_few : is_going d.state ≡ true → nat_lt p.limit (times is_not_there q) ≡ false
-  pub delays_are : d.patience.delays ≡ 19 - times is_busy_answer q
+  pub delays_are : d.retries.delays ≡ 19 - times is_busy_answer q
   pub delays_few : is_going d.state ≡ true → nat_lt (times is_busy_answer q) 20 ≡ true
   pub unasked : is_offering d.state ≡ false → (has is_offer_ask q ≡ false) × (has is_offer_answer q ≡ false)
   pub asks_due : EachEntry (λ e before. offer_due p e before ≡ true) q

@@ -13,7 +13,7 @@ ghost use Rattle.svc_record.specs.Message.{encode};
 ghost use Rattle.svc_record.specs.Offer.{is_empty_table};
 ghost use Rattle.svc_moments.specs.Least.{IsLeast};
 ghost use Rattle.svc_offer.specs.OfferState.{OfferStands, IsOfferSettled, is_connecting, is_sending, is_connect_due, is_send_due, is_stall_over, is_going, over_since, numbers_on_offer};
-ghost use Rattle.svc_offer.specs.OfferEffects.{nothing, event_of, is_awaited, begun, ends_by, state_after, answered_state, patience_after, answered, cut_state, cut_off, send_told, ask_with, asked, sends_at};
+ghost use Rattle.svc_offer.specs.OfferEffects.{nothing, event_of, is_awaited, begun, ends_by, state_after, answered_state, retries_after, answered, cut_state, cut_off, send_told, ask_with, asked, sends_at};
 ghost use Rattle.svc_offer.specs.OfferDues.{is_due_at};
 
 use crate::copies::copy_message;
@@ -45,7 +45,7 @@ impl Model for Offer {
 
     ghost Value = { OfferData };
 
-    ghost view = { λ o. record { state = o.state; message = o.message; patience = o.retry } };
+    ghost view = { λ o. record { state = o.state; message = o.message; retries = o.retry } };
 
     ghost invariant = { λ o. o.retry.delays ≤ 19 };
 }
@@ -54,7 +54,7 @@ impl Model for Offer {
 fn ends(retry: &mut SendRetry, answer: SendAnswer) -> bool
     requires { retry.old.delays ≤ 19 }
     ensures last { result ≡ ends_by retry.old answer }
-    ensures after { retry.new ≡ patience_after retry.old answer }
+    ensures after { retry.new ≡ retries_after retry.old answer }
 {
     matches!(retry.step(answer), SendNext::Done | SendNext::Refused(_))
 }
@@ -78,7 +78,7 @@ fn state_after(answer: SendAnswer, moment: u64) -> Offering
 fn answered_state(retry: &mut SendRetry, answer: SendAnswer, moment: u64) -> Offering
     requires { retry.old.delays ≤ 19 }
     ensures state { result ≡ answered_state retry.old answer moment }
-    ensures after { retry.new ≡ patience_after retry.old answer }
+    ensures after { retry.new ≡ retries_after retry.old answer }
 {
     if ends(retry, answer) {
         return Offering::Over(moment);

@@ -4,7 +4,7 @@ ghost use Rattle.std.specs.Prelude.{◌≡◌, ◌≤◌, not, true, false, None
 ghost use Rattle.svc_base.specs.Items.{spare};
 ghost use Rattle.svc_record.specs.declared.entry.Entry.TheVariants.{Got};
 ghost use Rattle.svc_record.specs.Ends.{is_parent_failure};
-ghost use Rattle.svc_boot.specs.ForkState.{is_free};
+ghost use Rattle.svc_boot.specs.ForkState.{may_run};
 ghost use Rattle.svc_boot.specs.BootEffects.{end_of};
 ghost use Rattle.svc_core.specs.CoreData.{with_end};
 ghost use Rattle.svc_core.specs.Stands.{MayBootstrap};
@@ -30,9 +30,9 @@ impl Core {
 
     /// The fork is awaited, or the process is the parent.
     pub(super) fn is_held(&self) -> bool
-        ensures { result ≡ not (is_free self.now.plan self.now.boot.fork) }
+        ensures { result ≡ not (may_run self.now.plan self.now.boot.fork) }
     {
-        !self.boot.is_free(&self.plan)
+        !self.boot.may_run(&self.plan)
     }
 
     /// A server's run begins: with `eager` it bootstraps at once, and then follows the rest of the
@@ -120,7 +120,7 @@ impl Core {
     /// long enough.
     pub(super) fn step_waiting(&mut self, ms: u64, actions: &mut Actions) -> StepEnd
         requires may { MayStep self.old (Event.Moment ms) actions.old }
-        requires held { is_free self.old.plan self.old.boot.fork ≡ false }
+        requires held { may_run self.old.plan self.old.boot.fork ≡ false }
         ensures { Steps self.old self.new (Event.Moment ms) actions.old actions.new result }
     {
         self.drain.on_moment(ms);

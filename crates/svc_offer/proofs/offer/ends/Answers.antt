@@ -1,5 +1,5 @@
 use Rattle.std.proofs.Common.{◌-◌, ◌∙◌, sym}
-use Rattle.svc_offer.proofs.RetryLemmas.{waits, after-waits, ends-here, ended, goes-on, patience-is}
+use Rattle.svc_offer.proofs.RetryLemmas.{waits, after-waits, ends-here, ended, goes-on, retries-is}
 use Rattle.svc_offer.proofs.offer.ends.Goals as goal
 
 pub returns-in-Done-clause-last : goal.returns-in-Done-clause-last
@@ -9,7 +9,7 @@ returns-in-Done-clause-last c = let n = c.args.retry.now in
 
 pub returns-in-Done-clause-after : goal.returns-in-Done-clause-after
 returns-in-Done-clause-after c = let n = c.args.retry.now in
-    patience-is n c.step.new.self c.args.answer c.requires (c.step.ensures.after n.absences (waits (19 - n.delays)) (after-waits n c.requires))
+    retries-is n c.step.new.self c.args.answer c.requires (c.step.ensures.after n.absences (waits (19 - n.delays)) (after-waits n c.requires))
 
 pub returns-in_default-clause-last : goal.returns-in_default-clause-last
 returns-in_default-clause-last c = let n = c.args.retry.now in
@@ -18,4 +18,4 @@ returns-in_default-clause-last c = let n = c.args.retry.now in
 
 pub returns-in_default-clause-after : goal.returns-in_default-clause-after
 returns-in_default-clause-after c = let n = c.args.retry.now in
-    patience-is n c.step.new.self c.args.answer c.requires (c.step.ensures.after n.absences (waits (19 - n.delays)) (after-waits n c.requires))
+    retries-is n c.step.new.self c.args.answer c.requires (c.step.ensures.after n.absences (waits (19 - n.delays)) (after-waits n c.requires))
