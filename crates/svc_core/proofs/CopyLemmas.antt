@@ -28,8 +28,8 @@ use Rattle.svc_drain.specs.DrainData.{DrainData}
 use Rattle.svc_drain.specs.DrainEffects.{run_told, row_told, stop_after, end_told}
 use Rattle.svc_connections.specs.ConnectionsEffects.{is_refused, arrived_told, set_told, shaken_told, rest_told}
 use Rattle.svc_connections.proofs.Arrivals.{same-list}
-use Rattle.svc_core.specs.declared.copies.SecondCopy.{SecondCopy}
-use Rattle.svc_core.specs.declared.copies.SecondCopy.TheVariants.{Nothing, OfMessage, OfSettings}
+use Rattle.svc_core.specs.declared.copies.OwnedPayload.{OwnedPayload}
+use Rattle.svc_core.specs.declared.copies.OwnedPayload.TheVariants.{Nothing, OfMessage, OfSettings}
 use Rattle.svc_core.specs.Copies.{is_bare, are_bare, TellsBare, is_copied, left_of, are_copied, TellsCopied, copy_of}
 use Rattle.svc_core.proofs.LateLemmas.{is_late, are_late, row-late, row-other}
 
@@ -89,13 +89,13 @@ pub run-bare : (d : DrainData) → are_bare (run_told d) ≡ true
 run-bare d = running-bare d.running d refl
 
 -- what isn't sent is copied as it is
-bare-is : (copy : SecondCopy) (a : Action) → is_bare a ≡ true → (is_copied copy a ≡ true) × (left_of copy a ≡ copy)
+bare-is : (copy : OwnedPayload) (a : Action) → is_bare a ≡ true → (is_copied copy a ≡ true) × (left_of copy a ≡ copy)
 bare-is copy (Send bytes fds) h = absurd (cc)
 bare-is copy (TellSettings c list) h = absurd (cc)
 bare-is copy (Judged c said) h = absurd (cc)
 bare-is copy _ h = (h, refl)
 
-pub bare-copied : (copy : SecondCopy) (told : List Action) → are_bare told ≡ true → are_copied copy told ≡ true
+pub bare-copied : (copy : OwnedPayload) (told : List Action) → are_bare told ≡ true → are_copied copy told ≡ true
 bare-copied copy [] h = refl
 bare-copied copy (a ∷ told) h =
     let parts = and_parts (is_bare a) (are_bare told) h in
@@ -103,7 +103,7 @@ bare-copied copy (a ∷ told) h =
     and_from (is_copied copy a) (are_copied (left_of copy a) told) here.0 (subst (λ c. are_copied c told ≡ true) (sym here.1) (bare-copied copy told parts.1))
 
 -- bare actions before and after
-before-copied : (copy : SecondCopy) (xs ys : List Action) → are_bare xs ≡ true → are_copied copy ys ≡ true → are_copied copy (xs ++ ys) ≡ true
+before-copied : (copy : OwnedPayload) (xs ys : List Action) → are_bare xs ≡ true → are_copied copy ys ≡ true → are_copied copy (xs ++ ys) ≡ true
 before-copied copy [] ys h k = k
 before-copied copy (a ∷ xs) ys h k =
     let parts = and_parts (is_bare a) (are_bare xs) h in
@@ -111,24 +111,24 @@ before-copied copy (a ∷ xs) ys h k =
     and_from (is_copied copy a) (are_copied (left_of copy a) (xs ++ ys)) here.0
     (subst (λ c. are_copied c (xs ++ ys) ≡ true) (sym here.1) (before-copied copy xs ys parts.1 k))
 
-after-copied : (copy : SecondCopy) (xs ys : List Action) → are_copied copy xs ≡ true → are_bare ys ≡ true → are_copied copy (xs ++ ys) ≡ true
+after-copied : (copy : OwnedPayload) (xs ys : List Action) → are_copied copy xs ≡ true → are_bare ys ≡ true → are_copied copy (xs ++ ys) ≡ true
 after-copied copy [] ys h k = bare-copied copy ys k
 after-copied copy (a ∷ xs) ys h k =
     let parts = and_parts (is_copied copy a) (are_copied (left_of copy a) xs) h in
     and_from (is_copied copy a) (are_copied (left_of copy a) (xs ++ ys)) parts.0 (after-copied (left_of copy a) xs ys parts.1 k)
 
-pub copied-bare : (copy : SecondCopy) (xs ys : List Action) → TellsBare xs ys → TellsCopied copy xs ys
+pub copied-bare : (copy : OwnedPayload) (xs ys : List Action) → TellsBare xs ys → TellsCopied copy xs ys
 copied-bare copy xs ys h = record { told = h.told; appended = h.appended; kept = bare-copied copy h.told h.kept }
 
 -- bare actions, and then others
-pub bare-first : (copy : SecondCopy) (xs ys zs : List Action) → TellsBare xs ys → TellsCopied copy ys zs → TellsCopied copy xs zs
+pub bare-first : (copy : OwnedPayload) (xs ys zs : List Action) → TellsBare xs ys → TellsCopied copy ys zs → TellsCopied copy xs zs
 bare-first copy xs ys zs a b = record {
   told = a.told ++ b.told;
   appended = b.appended ∙ (ap (λ (l : List Action). l ++ b.told) a.appended ∙ append_assoc xs a.told b.told);
   kept = before-copied copy a.told b.told a.kept b.kept;
 }
 
-pub bare-last : (copy : SecondCopy) (xs ys zs : List Action) → TellsCopied copy xs ys → TellsBare ys zs → TellsCopied copy xs zs
+pub bare-last : (copy : OwnedPayload) (xs ys zs : List Action) → TellsCopied copy xs ys → TellsBare ys zs → TellsCopied copy xs zs
 bare-last copy xs ys zs a b = record {
   told = a.told ++ b.told;
   appended = b.appended ∙ (ap (λ (l : List Action). l ++ b.told) a.appended ∙ append_assoc xs a.told b.told);
@@ -210,7 +210,7 @@ answer-copied copy xs ys zs o t dr over first next =
     (record { told = ask_with copy o t; appended = next; kept = ask-copied copy o t })
 
 -- what stands after a place up to which nothing was told
-pub rest-copied : (copy : SecondCopy) (before after : List Action) (from : ℕ) → TellsCopied copy before after → from ≡ length before
+pub rest-copied : (copy : OwnedPayload) (before after : List Action) (from : ℕ) → TellsCopied copy before after → from ≡ length before
     → are_copied copy (take (length after - from) (drop from after)) ≡ true
 rest-copied copy before after from h e =
     let rest : drop from after ≡ h.told = ap (λ (n : ℕ). drop n after) e ∙ (ap (drop (length before)) h.appended ∙ drop-append_seam before h.told) in
@@ -243,13 +243,13 @@ settings-same (a ∷ xs) (b ∷ ys) h =
 settings-same _ _ h = absurd (cc)
 
 -- where settings are told, the copy is of them
-pub of-settings : (copy : SecondCopy) (a : Action) (c : ℕ) (told : List Setting) → is_copied copy a ≡ true → a ≡ TellSettings c told
+pub of-settings : (copy : OwnedPayload) (a : Action) (c : ℕ) (told : List Setting) → is_copied copy a ≡ true → a ≡ TellSettings c told
     → (list : List Setting) × (copy ≡ OfSettings list)
 of-settings (OfSettings list) a c told h is = (list, refl)
 of-settings (OfMessage w) a c told h is = absurd (let same = rw is at h in cc)
 of-settings Nothing a c told h is = absurd (let same = rw is at h in cc)
 
-pub settings-told : (copy : SecondCopy) (a : Action) (c : ℕ) (told list : List Setting) → is_copied copy a ≡ true → a ≡ TellSettings c told
+pub settings-told : (copy : OwnedPayload) (a : Action) (c : ℕ) (told list : List Setting) → is_copied copy a ≡ true → a ≡ TellSettings c told
     → copy ≡ OfSettings list → TellSettings c list ≡ a
 settings-told copy a c told list h is of =
     let same = rw (is, of) at h in ap (λ (l : List Setting). TellSettings c l) (sym (settings-same told list same)) ∙ sym is

@@ -15,7 +15,7 @@ use Rattle.svc_record.specs.Plans.{filter_of}
 use Rattle.svc_record.specs.Connections.{is_known, has_filter, same_answer}
 use Rattle.svc_record.specs.Journal.{action_as_said, told_as_said}
 use Rattle.svc_record.specs.Judging.{judged_at, judgements, TellsJudged}
-use Rattle.svc_core.specs.declared.copies.SecondCopy.{SecondCopy}
+use Rattle.svc_core.specs.declared.copies.OwnedPayload.{OwnedPayload}
 use Rattle.svc_core.specs.Copies.{is_bare, are_bare, TellsBare, is_of_settings, is_copied, left_of, are_copied, TellsCopied, copy_of}
 
 -- bare actions judge nothing
@@ -31,17 +31,17 @@ pub unjudged-bare : (xs ys : List Action) → TellsBare xs ys → TellsJudged []
 unjudged-bare xs ys h = record { told = h.told; appended = h.appended; kept = bare-unjudged h.told h.kept }
 
 -- neither do actions beside which no settings are copied
-copied-one : (copy : SecondCopy) (a : Action) (more : List Action) → is_of_settings copy ≡ false → is_copied copy a ≡ true
+copied-one : (copy : OwnedPayload) (a : Action) (more : List Action) → is_of_settings copy ≡ false → is_copied copy a ≡ true
     → judgements (a ∷ more) ≡ judgements more
 copied-one copy (Judged c said) more none h = absurd (cc)
 copied-one copy _ more none h = refl
 
-none-left : (copy : SecondCopy) (a : Action) → is_of_settings copy ≡ false → is_of_settings (left_of copy a) ≡ false
+none-left : (copy : OwnedPayload) (a : Action) → is_of_settings copy ≡ false → is_of_settings (left_of copy a) ≡ false
 none-left copy (Send bytes fds) none = refl
 none-left copy (TellSettings c list) none = refl
 none-left copy _ none = none
 
-copied-unjudged : (copy : SecondCopy) (told : List Action) → is_of_settings copy ≡ false → are_copied copy told ≡ true → judgements told ≡ []
+copied-unjudged : (copy : OwnedPayload) (told : List Action) → is_of_settings copy ≡ false → are_copied copy told ≡ true → judgements told ≡ []
 copied-unjudged copy [] none h = refl
 copied-unjudged copy (a ∷ told) none h =
     let parts = and_parts (is_copied copy a) (are_copied (left_of copy a) told) h in

@@ -10,26 +10,26 @@ use svc_record::{Action, Actions};
 
 /// What a step may tell that owns memory, copied before the step.
 #[derive(Drop)]
-pub(crate) enum SecondCopy {
+pub(crate) enum OwnedPayload {
     Nothing,
     OfMessage(Message),
     OfSettings(Settings),
 }
 
-impl SecondCopy {
+impl OwnedPayload {
     /// The message, if there is one.
-    pub(crate) fn of_message(message: Option<Message>) -> SecondCopy
+    pub(crate) fn of_message(message: Option<Message>) -> OwnedPayload
         ensures { result ≡ copy_of message }
     {
         match message {
-            Some(message) => SecondCopy::OfMessage(message),
-            None => SecondCopy::Nothing,
+            Some(message) => OwnedPayload::OfMessage(message),
+            None => OwnedPayload::Nothing,
         }
     }
 }
 
 /// The same action again, which owns no memory.
-fn copy_bare(action: &Action) -> Action
+fn copy_of_bare(action: &Action) -> Action
     requires { is_bare action.now ≡ true }
     ensures { result ≡ action.now }
 {
@@ -59,7 +59,7 @@ fn copy_bare(action: &Action) -> Action
 
 /// Appends the same action, which owns no memory, judges a connection, or is what the copy is of.
 /// What is left of the copy.
-fn repeat_one(action: &Action, copy: SecondCopy, again: &mut Actions) -> SecondCopy
+fn append_copy(action: &Action, copy: OwnedPayload, again: &mut Actions) -> OwnedPayload
     requires copied { is_copied copy action.now ≡ true }
     requires room { 1 ≤ spare again.old }
     ensures told { list_of again.new ≡ list_of again.old ++ action.now ∷ [] }
@@ -68,23 +68,23 @@ fn repeat_one(action: &Action, copy: SecondCopy, again: &mut Actions) -> SecondC
 {
     match action {
         Action::Send(_, _) => {
-            if let SecondCopy::OfMessage(message) = copy {
+            if let OwnedPayload::OfMessage(message) = copy {
                 again.put(Action::Send(message.bytes, message.fds));
             }
-            SecondCopy::Nothing
+            OwnedPayload::Nothing
         }
         Action::Settings(c, _) => {
-            if let SecondCopy::OfSettings(settings) = copy {
+            if let OwnedPayload::OfSettings(settings) = copy {
                 again.put(Action::Settings(*c, settings));
             }
-            SecondCopy::Nothing
+            OwnedPayload::Nothing
         }
         Action::Judged(c, said) => {
             again.put(Action::Judged(*c, *said));
             copy
         }
         _ => {
-            again.put(copy_bare(action));
+            again.put(copy_of_bare(action));
             copy
         }
     }
@@ -92,13 +92,13 @@ fn repeat_one(action: &Action, copy: SecondCopy, again: &mut Actions) -> SecondC
 
 /// Appends the told actions to another list, which has room for them. They own no memory, but for
 /// one of which a copy is handed in.
-pub(crate) fn repeat(told: &[Action], copy: SecondCopy, again: &mut Actions)
+pub(crate) fn append_copies(told: &[Action], copy: OwnedPayload, again: &mut Actions)
     requires copied { are_copied copy told.now ≡ true }
     requires room { length told.now ≤ spare again.old }
     ensures { list_of again.new ≡ list_of again.old ++ told.now }
 {
     let mut left = copy;
     for action in told {
-        left = repeat_one(action, left, again);
+        left = append_copy(action, left, again);
     }
 }

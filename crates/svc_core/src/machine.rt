@@ -26,7 +26,7 @@ mod dues;
 mod fitting;
 mod forking;
 
-use crate::copies::{SecondCopy, repeat};
+use crate::copies::{OwnedPayload, append_copies};
 use crate::ends::{is_on, is_served};
 use crate::pass::pass;
 use crate::plans::{address_of, asked_filter};
@@ -436,21 +436,21 @@ impl Core {
         let copy = self.copy_at(alloc, event)?;
         let from = actions.len() as usize;
         let end = self.step(alloc, event, said, actions)?;
-        repeat(&actions.as_slice()[from..], copy, again);
+        append_copies(&actions.as_slice()[from..], copy, again);
         Ok(end)
     }
 
     /// A copy of what the event's step may tell that owns memory: an endpoint's settings where a
     /// connection arrived, else the message.
-    fn copy_at(&self, alloc: Global, event: &Event) -> Result<SecondCopy, NoMemory>
+    fn copy_at(&self, alloc: Global, event: &Event) -> Result<OwnedPayload, NoMemory>
         requires fits { MayCome self.now event.now }
         ensures { IfOk result (λ copy. copy ≡ copy_at self.now event.now) }
     {
         match event {
-            Event::Arrived(s, i, _, _) => Ok(SecondCopy::OfSettings(settings_of(
+            Event::Arrived(s, i, _, _) => Ok(OwnedPayload::OfSettings(settings_of(
                 alloc, &self.plan, *s, *i,
             )?)),
-            _ => Ok(SecondCopy::of_message(self.message_at(alloc, event)?)),
+            _ => Ok(OwnedPayload::of_message(self.message_at(alloc, event)?)),
         }
     }
 

@@ -2,8 +2,8 @@ use Rattle.std.proofs.Common.{ap, ◌∙◌, ◌++◌, ◌∷◌, []}
 use Rattle.svc_base.specs.Items.{list_of}
 use Rattle.svc_record.specs.declared.action.Action.{Action}
 use Rattle.svc_core.proofs.CopyLemmas.{settings-told, of-settings}
-use Rattle.svc_core.proofs.copies.repeat_one.Goals as goal
-use Rattle.svc_core.proofs.copies.repeat_one.Goals.{in-OfSettings, in_default-copy-2}
+use Rattle.svc_core.proofs.copies.append_copy.Goals as goal
+use Rattle.svc_core.proofs.copies.append_copy.Goals.{in-OfSettings, in_default-copy-2}
 
 pub returns-after-copy-3-clause-told : goal.returns-after-copy-3-clause-told
 returns-after-copy-3-clause-told c =

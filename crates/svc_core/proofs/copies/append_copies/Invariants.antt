@@ -1,7 +1,7 @@
 use Rattle.std.proofs.Common.{◌≡◌, ◌≤◌, ◌++◌, ◌+◌, true, length, take, drop}
 use Rattle.svc_base.specs.Items.{list_of, spare}
 use Rattle.svc_core.specs.Copies.{are_copied}
-use Rattle.svc_core.proofs.copies.repeat.Given as goal
+use Rattle.svc_core.proofs.copies.append_copies.Given as goal
 
 abbrev pub invariant-loop-action : goal.invariant-loop-action
 invariant-loop-action l = record {
