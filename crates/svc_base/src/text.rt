@@ -1,4 +1,7 @@
-ghost use Rattle.std.specs.Prelude.{◌≡◌, List, ℕ, IfOk, string_bytes, nat_eq, Some, refl};
+//! Texts, whose copies share their bytes.
+
+ghost use Rattle.std.specs.Prelude.{◌≡◌, List, ℕ, IfOk, nat_eq, Some, refl};
+ghost use Rattle.std.specs.Arc.{arc_str_bytes};
 ghost use Rattle.std.specs.Cmp.Lexicographic.{pointwise, slice_cmp, nat_list_eq_equiv, nat_list_cmp_total, texts_ties, texts_po};
 ghost use Rattle.std.specs.Ordering.{nat_cmp};
 ghost use Rattle.std.specs.Cmp.{partial_equiv_from_equiv};
@@ -7,19 +10,22 @@ use crate::memory::NoMemory;
 use std::alloc::Global;
 use std::cmp::Ordering;
 use std::marker::Model;
+use std::sync::ArcStr;
 
-/// A text. Contracts see it as the list of its bytes, and equality and order are those of the bytes.
+/// A text. Its copies share its bytes, and take no memory. Contracts see it as the list of its bytes, and equality
+/// and order are those of the bytes.
 #[derive(Debug, Drop)]
 pub struct Text {
-    inner: String,
+    inner: ArcStr,
 }
 
 impl Model for Text {
-    ghost use Rattle.std.specs.Prelude.{List, ℕ, string_bytes};
+    ghost use Rattle.std.specs.Prelude.{List, ℕ};
+    ghost use Rattle.std.specs.Arc.{arc_str_bytes};
 
     ghost Value = { List ℕ };
 
-    ghost view = { λ t. string_bytes t.inner };
+    ghost view = { λ t. arc_str_bytes t.inner };
 }
 
 impl Text {
@@ -27,7 +33,7 @@ impl Text {
     pub fn new(alloc: Global, text: &str) -> Result<Text, NoMemory>
         ensures { IfOk result (λ t. t ≡ text.now) }
     {
-        let inner = String::from_str(alloc, text)?;
+        let inner = ArcStr::from_str(alloc, text)?;
         Ok(Text { inner })
     }
 
@@ -37,11 +43,12 @@ impl Text {
         self.inner.as_str()
     }
 
-    /// The same text once more.
-    pub fn copy(&self, alloc: Global) -> Result<Text, NoMemory>
+    /// The same text once more, over the same bytes. `NoMemory` where they can have no more copies.
+    pub fn copy(&self, _alloc: Global) -> Result<Text, NoMemory>
         ensures { IfOk result (λ t. t ≡ self.now) }
     {
-        Text::new(alloc, self.as_str())
+        let inner = self.inner.clone()?;
+        Ok(Text { inner })
     }
 }
 

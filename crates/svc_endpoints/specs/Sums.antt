@@ -1,13 +1,13 @@
 -- Sums of addresses, by which an address that one endpoint alone has is told.
-use Rattle.std.specs.Prelude.{ℕ, true, ◌≡◌, ◌≢◌, ◌⊎◌, ◌<◌, ◌+◌, ◌*◌, ◌%◌, List, [], ◌∷◌, Some, length}
+use Rattle.std.specs.Prelude.{ℕ, true, ◌≡◌, ◌≢◌, ◌⊎◌, ◌<◌, ◌+◌, ◌*◌, ◌%◌, ◌^◌, List, [], ◌∷◌, Some, length}
 use Rattle.svc_record.specs.declared.plan.Plan.{Plan}
 use Rattle.svc_record.specs.Plans.{service_count, endpoints, address}
 use Rattle.svc_base.specs.NumberSets.{is_in}
 
--- a number below 2 ^ 32 that is made of one and of the bytes
+-- a number below 2 ^ 64 that is made of one and of the bytes
 abbrev pub hash_from : ℕ → List ℕ → ℕ
 hash_from h [] = h
-hash_from h (b ∷ more) = hash_from ((h * 131 + b) % 4294967291) more
+hash_from h (b ∷ more) = hash_from (((h * 131) % 2 ^ 64 + b) % 2 ^ 64) more
 
 -- a number that is made of the address
 abbrev pub sum_of : List ℕ → ℕ

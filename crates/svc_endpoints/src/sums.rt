@@ -17,7 +17,7 @@ fn hash(bytes: &[u8]) -> u64
 {
     let mut hash = 0u64;
     for byte in bytes {
-        hash = (hash * 131 + *byte as u64) % 4_294_967_291;
+        hash = hash.wrapping_mul(131).wrapping_add(*byte as u64);
     }
     hash
 }
