@@ -7,7 +7,7 @@ use Rattle.std.specs.Vec.{vec_items}
 use Rattle.std.proofs.lemmas.List.Concat.{flat_map-append}
 use Rattle.std.proofs.lemmas.List.{append-nil, take_more, drop_more, take-append-drop, set_split, get_or_read, length-set, nil_from_length}
 use Rattle.std.proofs.lemmas.List.Edits.{length-insert}
-use Rattle.svc_base.specs.Blocks.{joined, are_filled, later_filled, are_wide, rises_by, has_key, is_over, starts, StandsIn, StandsLast, put_by, IsBlockFor, before, behind, IsPlaceFor, IsPlaceOf, IsLastPlace, KeepsEntries, IsTable}
+use Rattle.svc_base.specs.Blocks.{joined, are_filled, later_filled, are_wide, rises_by, has_key, is_over, starts, is_index, StandsIn, StandsLast, put_by, IsBlockFor, before, behind, IsPlaceFor, IsPlaceOf, IsLastPlace, KeepsEntries, IsTable}
 use Rattle.svc_base.proofs.KeyLemmas.{all-both, all-mid, all-weaker, rises-left, rises-right, under, over, none-under, none-over, none-both, put-parted, rises-put, rises-cut, rises-other}
 
 -- one test of all elements, after an edit
@@ -405,15 +405,15 @@ module _ {T Z : Type 0} (key : T → ℕ) (c : ℕ) where
       same : (y : T) (ys : List T) → x ∷ ys ≡ y ∷ ys → x ≡ y
       same y ys e = cc
 
-module _ {T Z : Type 0} (key : T → ℕ) (bs new : List (Vec T Z)) (count room at place : ℕ) (t : IsTable key bs count room) where
+module _ {T Z : Type 0} (key : T → ℕ) (bs new : List (Vec T Z)) (notes later : List ℕ) (count room at place : ℕ) (t : IsTable key bs notes count room) where
   -- an entry more
   pub put-is : (x : T) → IsPlaceFor key (key x) bs at place → joined new ≡ before bs at place ++ x ∷ behind bs at place → joined new ≡ put_by key x (joined bs)
   put-is x p entries = entries ∙ put-parted key x (before bs at place) (behind bs at place) p.below p.above ∙ ap (put_by key x) (sym (joined-parts bs at place))
 
   pub table-put : (x : T) → 0 < room → IsPlaceFor key (key x) bs at place → joined new ≡ before bs at place ++ x ∷ behind bs at place
       → (later_filled bs ≡ true → later_filled new ≡ true) → ((n : ℕ) → are_wide (n + 1) bs ≡ true → are_wide n new ≡ true) → length new ≡ length bs
-      → IsTable key new (count + 1) (room - 1)
-  table-put x some p entries filled wide same =
+      → is_index key later new ≡ true → IsTable key new later (count + 1) (room - 1)
+  table-put x some p entries filled wide same index =
       let before_it = ap length (joined-parts bs at place) in
       let after = ap length entries in
       let counts = t.counts in
@@ -423,6 +423,7 @@ module _ {T Z : Type 0} (key : T → ℕ) (bs new : List (Vec T Z)) (count room 
       record {
         filled = filled t.filled;
         rise = ap (rises_by key) (put-is x p entries) ∙ rises-put key x (joined bs) t.rise;
+        index = index;
         counts = omega (arith, length-append (before bs at place) (behind bs at place), length-append (before bs at place) (x ∷ behind bs at place));
         few = omega arith;
         some = λ more. omega arith;
@@ -433,8 +434,8 @@ module _ {T Z : Type 0} (key : T → ℕ) (bs new : List (Vec T Z)) (count room 
   pub table-other : (x y : T) → key x ≡ key y → behind bs at place ≡ x ∷ behind bs at (suc place)
       → joined new ≡ before bs at place ++ y ∷ behind bs at (suc place)
       → (later_filled bs ≡ true → later_filled new ≡ true) → ((n : ℕ) → are_wide n bs ≡ true → are_wide n new ≡ true) → length new ≡ length bs
-      → IsTable key new count room
-  table-other x y keys taken entries filled wide same =
+      → is_index key later new ≡ true → IsTable key new later count room
+  table-other x y keys taken entries filled wide same index =
       let old = joined-parts bs at place ∙ ap (λ (xs : List T). before bs at place ++ xs) taken in
       let before_it = ap length old in
       let after = ap length entries in
@@ -442,6 +443,7 @@ module _ {T Z : Type 0} (key : T → ℕ) (bs new : List (Vec T Z)) (count room 
       record {
         filled = filled t.filled;
         rise = ap (rises_by key) entries ∙ rises-other key (before bs at place) x y (behind bs at (suc place)) keys (ap (rises_by key) (sym old) ∙ t.rise);
+        index = index;
         counts = omega
             (arith, length-append (before bs at place) (x ∷ behind bs at (suc place)), length-append (before bs at place) (y ∷ behind bs at (suc place)));
         few = t.few;
@@ -452,8 +454,8 @@ module _ {T Z : Type 0} (key : T → ℕ) (bs new : List (Vec T Z)) (count room 
   -- an entry less
   pub table-cut : (x : T) → behind bs at place ≡ x ∷ behind bs at (suc place) → joined new ≡ before bs at place ++ behind bs at (suc place)
       → (later_filled bs ≡ true → later_filled new ≡ true) → ((n : ℕ) → are_wide n bs ≡ true → are_wide n new ≡ true) → 0 < length new
-      → IsTable key new (count - 1) room
-  table-cut x taken entries filled wide some =
+      → is_index key later new ≡ true → IsTable key new later (count - 1) room
+  table-cut x taken entries filled wide some index =
       let old = joined-parts bs at place ∙ ap (λ (xs : List T). before bs at place ++ xs) taken in
       let before_it = ap length old in
       let after = ap length entries in
@@ -462,6 +464,7 @@ module _ {T Z : Type 0} (key : T → ℕ) (bs new : List (Vec T Z)) (count room 
       record {
         filled = filled t.filled;
         rise = ap (rises_by key) entries ∙ rises-cut key (before bs at place) x (behind bs at (suc place)) (ap (rises_by key) (sym old) ∙ t.rise);
+        index = index;
         counts = omega
             (arith, length-append (before bs at place) (x ∷ behind bs at (suc place)), length-append (before bs at place) (behind bs at (suc place)));
         few = omega arith;

@@ -2,6 +2,7 @@ pub mod BlockLemmas
 pub mod CallLemmas
 pub mod CutLemmas
 pub mod DecimalLemmas
+pub mod IndexLemmas
 pub mod KeyLemmas
 pub mod LineLemmas
 pub mod Logic

@@ -1,5 +1,5 @@
 -- Entries in ascending key, in blocks.
-use Rattle.std.specs.Prelude.{ℕ, zero, suc, Bool, true, false, ◌≡◌, ◌&&◌, ◌==◌, ◌+◌, ◌<◌, ◌≤◌, ◌^◌, nat_lt, nat_le, if◌then◌else◌, List, [], ◌∷◌, ◌++◌, length, take, drop, slice_index_or, Vec, vec_capacity}
+use Rattle.std.specs.Prelude.{ℕ, zero, suc, Bool, true, false, ◌≡◌, ◌&&◌, ◌==◌, ◌+◌, ◌<◌, ◌≤◌, ◌^◌, nat_lt, nat_le, if◌then◌else◌, List, [], ◌∷◌, ◌++◌, length, take, drop, slice_index_or, slice_set, Vec, vec_capacity}
 use Rattle.std.specs.List.{flat_map, list_all, list_any}
 use Rattle.std.specs.Vec.{vec_items}
 
@@ -58,6 +58,38 @@ abbrev pub starts : {T : Type 0} → (T → ℕ) → ℕ → List T → Bool
 starts key c [] = true
 starts key c (x ∷ more) = nat_le (key x) c
 
+-- the key of the first entry, or 0 without one
+abbrev pub first_key : {T : Type 0} → (T → ℕ) → List T → ℕ
+first_key key [] = 0
+first_key key (x ∷ more) = key x
+
+-- these are the first keys of the front blocks
+abbrev pub are_firsts : {T Z : Type 0} → (T → ℕ) → List ℕ → List (Vec T Z) → Bool
+are_firsts key [] blocks = true
+are_firsts key (n ∷ notes) [] = false
+are_firsts key (n ∷ notes) (v ∷ blocks) = first_key key v.items == n && are_firsts key notes blocks
+
+-- the same, but for the first block's, which no search reads
+abbrev pub is_index : {T Z : Type 0} → (T → ℕ) → List ℕ → List (Vec T Z) → Bool
+is_index key [] blocks = true
+is_index key (n ∷ notes) [] = false
+is_index key (n ∷ notes) (v ∷ blocks) = are_firsts key notes blocks
+
+-- first keys that were noted are so still
+abbrev pub KeepsFirsts : {T Z : Type 0} → (T → ℕ) → List (Vec T Z) → List (Vec T Z) → Type 0
+KeepsFirsts key old new = (notes : List ℕ) → is_index key notes old ≡ true → is_index key notes new ≡ true
+
+-- the notes with one more at a place that they reach
+abbrev pub put_note : ℕ → ℕ → List ℕ → List ℕ
+put_note zero n notes = n ∷ notes
+put_note (suc at) n [] = []
+put_note (suc at) n (m ∷ notes) = m ∷ put_note at n notes
+
+-- the notes as the entry at this place went, and the block has these
+abbrev pub renoted : {T : Type 0} → (T → ℕ) → ℕ → ℕ → List T → List ℕ → List ℕ
+renoted key at zero block notes = slice_set notes at (first_key key block)
+renoted key at (suc place) block notes = notes
+
 -- an entry with the key c stands in the block at this place, or goes there
 pub record IsBlockFor {T Z : Type 0} (key : T → ℕ) (c : ℕ) (blocks : List (Vec T Z)) (at : ℕ) : Type 0 where
   pub within : at < length blocks
@@ -103,10 +135,11 @@ pub record KeepsEntries {T Z : Type 0} (old new : List (Vec T Z)) : Type 0 where
   pub filled : later_filled old ≡ true → later_filled new ≡ true
   pub more : length old ≤ length new
 
--- the blocks are in order, so many entries stand in them, and each has memory for so many more
-pub record IsTable {T Z : Type 0} (key : T → ℕ) (blocks : List (Vec T Z)) (count room : ℕ) : Type 0 where
+-- the blocks are in order, their first keys are noted, so many entries stand in them, and each has memory for so many more
+pub record IsTable {T Z : Type 0} (key : T → ℕ) (blocks : List (Vec T Z)) (notes : List ℕ) (count room : ℕ) : Type 0 where
   pub filled : later_filled blocks ≡ true
   pub rise : rises_by key (joined blocks) ≡ true
+  pub index : is_index key notes blocks ≡ true
   pub counts : count ≡ length (joined blocks)
   pub few : count + room < 2 ^ 59
   pub some : 0 < room → 0 < length blocks

@@ -1,10 +1,11 @@
 //! Where an entry stands in blocks, or goes.
 
-ghost use Rattle.std.specs.Prelude.{◌≡◌, ◌<◌, ◌≤◌, length, take, drop, nat_lt, nat_le, IfSome, IfNone, true, false};
+ghost use Rattle.std.specs.Prelude.{◌≡◌, ◌<◌, ◌≤◌, length, take, drop, slice_index_or, Vec, nat_lt, nat_le, IfSome, IfNone, true, false};
 ghost use Rattle.std.specs.List.{list_all};
-ghost use Rattle.svc_base.specs.Blocks.{joined, later_filled, rises_by, has_key, is_over, starts, IsBlockFor, IsPlaceFor, IsPlaceOf, IsLastPlace};
+ghost use Rattle.svc_base.specs.Blocks.{joined, later_filled, rises_by, has_key, is_over, starts, first_key, is_index, IsBlockFor, IsPlaceFor, IsPlaceOf, IsLastPlace};
 
 use crate::keyed::Keyed;
+use std::alloc::Global;
 
 /// A place in a block.
 #[derive(Clone, Copy)]
@@ -13,26 +14,41 @@ pub(crate) struct Place {
     pub entry: usize,
 }
 
-/// The first key is at most this, if there is one.
-fn starts<T: Keyed>(block: &[T], key: u64) -> bool
-    ensures { result ≡ starts T.key_of key block.now }
+/// The key of the first entry, or 0 without one.
+pub(crate) fn first_key<T: Keyed>(block: &[T]) -> u64
+    ensures { result ≡ first_key T.key_of block.now }
 {
     match block.first() {
-        Some(first) => first.key() <= key,
-        None => true,
+        Some(first) => first.key(),
+        None => 0,
+    }
+}
+
+/// The block there starts at most at the key. Its own first entry is read only where its key isn't noted.
+fn starts_at<T: Keyed>(blocks: &[Vec<T>], firsts: &[u64], at: usize, key: u64) -> bool
+    requires later { 0 < at }
+    requires within { at < length blocks.now }
+    requires index { is_index T.key_of firsts.now blocks.now ≡ true }
+    ensures { (d : Vec T Global) → result ≡ starts T.key_of key (slice_index_or blocks.now at d).items }
+{
+    if at < firsts.len() {
+        firsts[at] <= key
+    } else {
+        first_key(&blocks[at]) <= key
     }
 }
 
 /// The block of the key, by halving: the last one that starts at most there.
-fn block_for<T: Keyed>(blocks: &[Vec<T>], key: u64) -> usize
-    requires { 0 < length blocks.now }
+fn block_for<T: Keyed>(blocks: &[Vec<T>], firsts: &[u64], key: u64) -> usize
+    requires some { 0 < length blocks.now }
+    requires index { is_index T.key_of firsts.now blocks.now ≡ true }
     ensures { IsBlockFor T.key_of key blocks.now result }
 {
     let mut low = 0;
     let mut high = blocks.len();
     while low + 1 < high {
         let middle = low + (high - low) / 2;
-        if starts(&blocks[middle], key) {
+        if starts_at(blocks, firsts, middle, key) {
             low = middle;
         } else {
             high = middle;
@@ -52,28 +68,30 @@ fn count_up_to<T: Keyed>(block: &[T], key: u64) -> usize
 }
 
 /// Where an entry with the key goes: behind all whose keys are at most that.
-pub(crate) fn place_for<T: Keyed>(blocks: &[Vec<T>], key: u64) -> Place
+pub(crate) fn place_for<T: Keyed>(blocks: &[Vec<T>], firsts: &[u64], key: u64) -> Place
     requires some { 0 < length blocks.now }
     requires filled { later_filled blocks.now ≡ true }
     requires rise { rises_by T.key_of (joined blocks.now) ≡ true }
+    requires index { is_index T.key_of firsts.now blocks.now ≡ true }
     ensures { IsPlaceFor T.key_of key blocks.now result.block result.entry }
 {
-    let block = block_for(blocks, key);
+    let block = block_for(blocks, firsts, key);
     let entry = count_up_to(&blocks[block], key);
     Place { block, entry }
 }
 
 /// Where the last entry stands whose key is at most this, if there is one.
-pub(crate) fn last_place<T: Keyed>(blocks: &[Vec<T>], key: u64) -> Option<Place>
+pub(crate) fn last_place<T: Keyed>(blocks: &[Vec<T>], firsts: &[u64], key: u64) -> Option<Place>
     requires filled { later_filled blocks.now ≡ true }
     requires rise { rises_by T.key_of (joined blocks.now) ≡ true }
+    requires index { is_index T.key_of firsts.now blocks.now ≡ true }
     ensures found { IfSome result (λ p. IsLastPlace T.key_of key blocks.now p.block p.entry) }
     ensures absent { IfNone result (is_over T.key_of key (joined blocks.now) ≡ true) }
 {
     if blocks.is_empty() {
         return None;
     }
-    let behind = place_for(blocks, key);
+    let behind = place_for(blocks, firsts, key);
     if behind.entry == 0 {
         return None;
     }
@@ -84,13 +102,14 @@ pub(crate) fn last_place<T: Keyed>(blocks: &[Vec<T>], key: u64) -> Option<Place>
 }
 
 /// Where the last entry with the key stands, if there is one.
-pub(crate) fn find_place<T: Keyed>(blocks: &[Vec<T>], key: u64) -> Option<Place>
+pub(crate) fn find_place<T: Keyed>(blocks: &[Vec<T>], firsts: &[u64], key: u64) -> Option<Place>
     requires filled { later_filled blocks.now ≡ true }
     requires rise { rises_by T.key_of (joined blocks.now) ≡ true }
+    requires index { is_index T.key_of firsts.now blocks.now ≡ true }
     ensures found { IfSome result (λ p. IsPlaceOf T.key_of key blocks.now p.block p.entry) }
     ensures absent { IfNone result (has_key T.key_of key (joined blocks.now) ≡ false) }
 {
-    match last_place(blocks, key) {
+    match last_place(blocks, firsts, key) {
         Some(place) => {
             let block = &blocks[place.block];
             if block[place.entry].key() == key {

@@ -6,7 +6,7 @@ ghost use Rattle.svc_base.specs.Items.{list_of, spare};
 ghost use Rattle.svc_base.specs.Blocks.{joined, later_filled, put_by, has_key, is_over, rises_by, StandsIn, StandsLast};
 
 use crate::block_edits::{insert_at, remove_at, replace_at};
-use crate::block_memory::{SLACK, make_room};
+use crate::block_memory::{SLACK, make_room, note_rest};
 use crate::block_places::{find_place, last_place, place_for};
 use crate::keyed::Keyed;
 use crate::memory::NoMemory;
@@ -39,10 +39,12 @@ fn filled_blocks<T: Drop>(mut blocks: Vec<Vec<T>>) -> Vec<Vec<T>>
 }
 
 /// Entries in ascending key, those of equal keys in the order in which they came. They stand in blocks, so that
-/// one that comes or goes moves few others. Contracts see them and for how many more there is memory.
+/// one that comes or goes moves few others, and the blocks' first keys beside them, so that a search reads one
+/// block. Contracts see them and for how many more there is memory.
 #[derive(Drop)]
 pub struct Blocks<T: Keyed> {
     blocks: Vec<Vec<T>>,
+    firsts: Vec<u64>,
     count: usize,
     room: usize,
     alloc: Global,
@@ -56,7 +58,7 @@ impl<T: Keyed> Model for Blocks<T> {
 
     ghost view = { λ b. (joined b.blocks.items, b.room) };
 
-    ghost invariant = { λ b. IsTable T.key_of b.blocks.items b.count b.room };
+    ghost invariant = { λ b. IsTable T.key_of b.blocks.items b.firsts.items b.count b.room };
 }
 
 impl<T: Keyed> Blocks<T> {
@@ -66,6 +68,7 @@ impl<T: Keyed> Blocks<T> {
     {
         Blocks {
             blocks: Vec::new(alloc),
+            firsts: Vec::new(alloc),
             count: 0,
             room: 0,
             alloc,
@@ -86,7 +89,7 @@ impl<T: Keyed> Blocks<T> {
             return Err(NoMemory);
         }
         self.room = 0;
-        make_room(&mut self.blocks, room, self.alloc)?;
+        make_room(&mut self.blocks, &mut self.firsts, room, self.alloc)?;
         self.room = room;
         Ok(())
     }
@@ -111,7 +114,7 @@ impl<T: Keyed> Blocks<T> {
         ensures found { IfSome result (λ x. StandsIn T.key_of key (list_of self.now) x.now) }
         ensures absent { IfNone result (has_key T.key_of key (list_of self.now) ≡ false) }
     {
-        match find_place(&self.blocks, key) {
+        match find_place(&self.blocks, &self.firsts, key) {
             Some(place) => {
                 let block = &self.blocks[place.block];
                 Some(&block[place.entry])
@@ -125,7 +128,7 @@ impl<T: Keyed> Blocks<T> {
         ensures found { IfSome result (λ x. StandsLast T.key_of key (list_of self.now) x.now) }
         ensures absent { IfNone result (is_over T.key_of key (list_of self.now) ≡ true) }
     {
-        match last_place(&self.blocks, key) {
+        match last_place(&self.blocks, &self.firsts, key) {
             Some(place) => {
                 let block = &self.blocks[place.block];
                 Some(&block[place.entry])
@@ -140,7 +143,7 @@ impl<T: Keyed> Blocks<T> {
         ensures entries { list_of self.new ≡ put_by T.key_of entry (list_of self.old) }
         ensures room { spare self.old ≤ spare self.new + 1 }
     {
-        let place = place_for(&self.blocks, entry.key());
+        let place = place_for(&self.blocks, &self.firsts, entry.key());
         insert_at(&mut self.blocks, place, entry);
         self.count += 1;
         self.room -= 1;
@@ -154,7 +157,7 @@ impl<T: Keyed> Blocks<T> {
         ensures same { OnFalse result (self.new ≡ self.old) }
         ensures room { spare self.new ≡ spare self.old }
     {
-        match find_place(&self.blocks, entry.key()) {
+        match find_place(&self.blocks, &self.firsts, entry.key()) {
             Some(place) => {
                 replace_at(&mut self.blocks, place, entry);
                 true
@@ -170,10 +173,10 @@ impl<T: Keyed> Blocks<T> {
         ensures same { IfNone result (self.new ≡ self.old) }
         ensures room { spare self.new ≡ spare self.old }
     {
-        match find_place(&self.blocks, key) {
+        match find_place(&self.blocks, &self.firsts, key) {
             Some(place) => {
                 self.count -= 1;
-                Some(remove_at(&mut self.blocks, place))
+                Some(remove_at(&mut self.blocks, &mut self.firsts, place))
             }
             None => None,
         }
@@ -188,6 +191,7 @@ impl<T: Keyed> Blocks<T> {
     {
         self.count = 0;
         self.room = 0;
+        self.firsts.clear();
         let alloc = self.alloc;
         mem::replace(&mut self.blocks, Vec::new(alloc))
     }
@@ -201,5 +205,7 @@ impl<T: Keyed> Blocks<T> {
         self.count = count_of(&blocks);
         self.room = 0;
         self.blocks = filled_blocks(blocks);
+        self.firsts.clear();
+        let _ = note_rest(&mut self.firsts, &self.blocks);
     }
 }

@@ -1,5 +1,5 @@
 -- What the fields of a graph keep, from one change to the next.
-use Rattle.std.proofs.Common.{ℕ, zero, suc, Bool, true, false, ◌&&◌, ◌||◌, ◌==◌, ◌⊎◌, inl, inr, List, [], ◌∷◌, ◌++◌, ◌≡◌, ◌≢◌, refl, sym, ◌∙◌, subst, ap, arith, All, ◌<◌, ◌≤◌, ◌+◌, nat_lt, length, length-append, length-set, slice_set}
+use Rattle.std.proofs.Common.{ℕ, zero, suc, Bool, true, false, ◌&&◌, ◌||◌, ◌==◌, ◌⊎◌, inl, inr, List, [], ◌∷◌, ◌++◌, ◌≡◌, ◌≢◌, refl, sym, ◌∙◌, subst, ap, arith, All, ◌<◌, ◌≤◌, ◌+◌, nat_lt, length, length-append, length-set, slice_set, Option, Some, None}
 use Rattle.std.proofs.lemmas.Bool.{cases_eq, cases_lt, eq-eqb, ne_eqb, lt-ltb, le-ltb, and_left, false_from_ne_true}
 use Rattle.std.proofs.lemmas.List.{get_or-set_other, get_or-set_same, length_push}
 use Rattle.std.proofs.lemmas.List.Folds.{list_any-append}
@@ -15,8 +15,8 @@ use Rattle.svc_graph.proofs.Counts.{count-more, none_at}
 use Rattle.svc_graph.proofs.Reaches.{none_set, needed-grown, above-same, divides-same}
 use Rattle.svc_graph.proofs.Chains.{ranked-acyclic, rank-added, raised, path-falls}
 
-pub kept-none : (above : List ℕ) (node : ℕ) → 1024 ≤ node → IsKept 0 [] [] above node
-kept-none above node none = record {
+pub kept-none : (above : List ℕ) → IsKept 0 [] [] above None
+kept-none above = record {
   few = omega arith;
   sized = refl;
   inside = λ a k d lt. absurd (omega arith);
@@ -24,11 +24,11 @@ kept-none above node none = record {
   ranked = λ a b e. absurd (cc);
   unique = λ a. refl;
   direct = record { rows = omega arith; edges = λ a b. none_set b a };
-  leading = λ lt. absurd (omega arith);
+  leading = tt;
 }
 
-pub kept-graph : (g : GraphData) (needed above : List ℕ) (node : ℕ) → IsKept (length g.names) g.depends needed above node → IsGraph g
-kept-graph g needed above node kept = record {
+pub kept-graph : (g : GraphData) (needed above : List ℕ) (looked : Option ℕ) → IsKept (length g.names) g.depends needed above looked → IsGraph g
+kept-graph g needed above looked kept = record {
   few = kept.few;
   rows = kept.sized;
   inside = kept.inside;
@@ -36,16 +36,21 @@ kept-graph g needed above node kept = record {
 }
 
 -- the same for a graph that is seen as one
-pub view-graph : {names rows : List (List ℕ)} {needed above : List ℕ} {node : ℕ} {g : GraphData} → record { names = names; depends = rows } ≡ g
-    → IsKept (length names) rows needed above node → IsGraph g
-view-graph {names} {rows} {needed} {above} {node} same kept =
-    subst (λ (h : GraphData). IsGraph h) same (kept-graph (record { names = names; depends = rows }) needed above node kept)
+pub view-graph : {names rows : List (List ℕ)} {needed above : List ℕ} {looked : Option ℕ} {g : GraphData} → record { names = names; depends = rows } ≡ g
+    → IsKept (length names) rows needed above looked → IsGraph g
+view-graph {names} {rows} {needed} {above} {looked} same kept =
+    subst (λ (h : GraphData). IsGraph h) same (kept-graph (record { names = names; depends = rows }) needed above looked kept)
+
+keeps-same : (needed needed_now above : List ℕ) (looked : Option ℕ) → ((a b : ℕ) → is_set needed_now a b ≡ is_set needed a b) → KeepsAbove needed above looked
+    → KeepsAbove needed_now above looked
+keeps-same needed needed_now above None same leads = tt
+keeps-same needed needed_now above (Some looked) same leads = above-same needed needed_now above looked same leads
 
 -- more room for bits
-pub kept-grown : (count : ℕ) (rows : List (List ℕ)) (needed above : List ℕ) (node : ℕ) (needed_now : List ℕ)
+pub kept-grown : (count : ℕ) (rows : List (List ℕ)) (needed above : List ℕ) (looked : Option ℕ) (needed_now : List ℕ)
     → length needed ≤ length needed_now → ((a b : ℕ) → is_set needed_now a b ≡ is_set needed a b)
-    → IsKept count rows needed above node → IsKept count rows needed_now above node
-kept-grown count rows needed above node needed_now longer same kept = record {
+    → IsKept count rows needed above looked → IsKept count rows needed_now above looked
+kept-grown count rows needed above looked needed_now longer same kept = record {
   few = kept.few;
   sized = kept.sized;
   inside = kept.inside;
@@ -53,13 +58,13 @@ kept-grown count rows needed above node needed_now longer same kept = record {
   ranked = kept.ranked;
   unique = kept.unique;
   direct = needed-grown count (is_in_row rows) needed needed_now longer same kept.direct;
-  leading = λ lt. above-same needed needed_now above node same (kept.leading lt);
+  leading = keeps-same needed needed_now above looked same kept.leading;
 }
 
 -- after a search for the nodes that lead to another node
-pub kept-looked : (count : ℕ) (rows : List (List ℕ)) (needed before : List ℕ) (node : ℕ) (above : List ℕ) (node_now : ℕ) → KeepsAbove needed above node_now
-    → IsKept count rows needed before node → IsKept count rows needed above node_now
-kept-looked count rows needed before node above node_now leads kept = record {
+pub kept-looked : (count : ℕ) (rows : List (List ℕ)) (needed before : List ℕ) (looked : Option ℕ) (above : List ℕ) (node_now : Option ℕ)
+    → KeepsAbove needed above node_now → IsKept count rows needed before looked → IsKept count rows needed above node_now
+kept-looked count rows needed before looked above node_now leads kept = record {
   few = kept.few;
   sized = kept.sized;
   inside = kept.inside;
@@ -89,9 +94,9 @@ unique_node rows inside unique a =
     ∙ ap (λ row. count_below (λ b. is_listed row b) (length (rows ++ [] ∷ []))) (sym (row_more rows a))
 
 -- what the fields keep with one more node
-pub kept-node : (count : ℕ) (rows : List (List ℕ)) (needed above : List ℕ) (node : ℕ) → count < 1024 → HasRows needed (count + 1)
-    → IsKept count rows needed above node → IsKept (count + 1) (rows ++ [] ∷ []) needed above node
-kept-node count rows needed above node room needed_rows kept =
+pub kept-node : (count : ℕ) (rows : List (List ℕ)) (needed above : List ℕ) (looked : Option ℕ) → count < 1024 → HasRows needed (count + 1)
+    → IsKept count rows needed above looked → IsKept (count + 1) (rows ++ [] ∷ []) needed above looked
+kept-node count rows needed above looked room needed_rows kept =
     let same : (a b : ℕ) → is_in_row (rows ++ [] ∷ []) a b ≡ is_in_row rows a b = λ a b. ap (λ row. is_listed row b) (row_more rows a) in
     record {
       few = omega arith;
@@ -182,12 +187,12 @@ unique_pushed rows s d lt d_in fresh unique a =
     none u v w e = grind arith
 
 -- an edge to a node that doesn't lead back
-pub kept-edge : (count : ℕ) (rows : List (List ℕ)) (needed before : List ℕ) (node : ℕ) (needed_now above : List ℕ) (node_now s d : ℕ)
-    → IsKept count rows needed before node → s < count → d < count
+pub kept-edge : (count : ℕ) (rows : List (List ℕ)) (needed before : List ℕ) (looked : Option ℕ) (needed_now above : List ℕ) (node_now : Option ℕ) (s d : ℕ)
+    → IsKept count rows needed before looked → s < count → d < count
     → is_in_row rows s d ≡ false → Divides (needs needed) d s → KeepsWith needed s d above node_now
     → length needed_now ≡ length needed → ((a b : ℕ) → is_set needed_now a b ≡ (is_set needed a b || (a == d && b == s)))
     → IsKept count (pushed rows s d) needed_now above node_now
-kept-edge count rows needed before node needed_now above node_now s d kept s_in d_in fresh apart later needed_len needed_bits =
+kept-edge count rows needed before looked needed_now above node_now s d kept s_in d_in fresh apart later needed_len needed_bits =
     let sized = kept.sized in
     let lt : s < length rows = omega arith in
     let divides = divides-same (needs needed) (is_in_row rows) d s kept.direct.edges apart in
@@ -206,19 +211,19 @@ kept-edge count rows needed before node needed_now above node_now s d kept s_in 
     }
 
 -- no way leads back from the end of an edge that is there
-pub edge-no_return : (count : ℕ) (rows : List (List ℕ)) (needed above : List ℕ) (node s d : ℕ) → IsKept count rows needed above node → is_in_row rows s d ≡ true
-    → (s ≡ d) ⊎ Path (is_in_row rows) d s → ⊥
-edge-no_return count rows needed above node s d kept e (inl same) =
+pub edge-no_return : (count : ℕ) (rows : List (List ℕ)) (needed above : List ℕ) (looked : Option ℕ) (s d : ℕ) → IsKept count rows needed above looked
+    → is_in_row rows s d ≡ true → (s ≡ d) ⊎ Path (is_in_row rows) d s → ⊥
+edge-no_return count rows needed above looked s d kept e (inl same) =
     let h = kept.ranked s d e in
     let there : kept.rank d ≡ kept.rank s = ap kept.rank (sym same) in omega arith
-edge-no_return count rows needed above node s d kept e (inr path) =
+edge-no_return count rows needed above looked s d kept e (inr path) =
     let h = kept.ranked s d e in
     let back = path-falls (is_in_row rows) kept.rank kept.ranked d s path in omega arith
 
 -- the nodes whose row has the bit of s are those that s depends on
-pub kept-row : (count : ℕ) (rows : List (List ℕ)) (needed above : List ℕ) (node : ℕ) → IsKept count rows needed above node → (s a : ℕ)
+pub kept-row : (count : ℕ) (rows : List (List ℕ)) (needed above : List ℕ) (looked : Option ℕ) → IsKept count rows needed above looked → (s a : ℕ)
     → (nat_lt a count && is_set needed a s) ≡ is_in_row rows s a
-kept-row count rows needed above node kept s a =
+kept-row count rows needed above looked kept s a =
     elim (cases_lt a count) [
       | inl lt ↦ ap (λ w. w && is_set needed a s) (lt-ltb a count lt) ∙ kept.direct.edges s a
       | inr le ↦ and_left (nat_lt a count) (is_set needed a s) (le-ltb a count le)

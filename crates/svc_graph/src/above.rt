@@ -10,14 +10,11 @@ use crate::bits::Bits;
 use std::alloc::Global;
 use svc_base::NoMemory;
 
-/// What stands for no node.
-const NO_NODE: u32 = 1024;
-
 /// The nodes that lead to a node by a chain, and the node itself.
 #[derive(Debug, Drop)]
 pub(crate) struct Above {
-    /// The node; 1,024 where nothing was looked for yet.
-    pub node: u32,
+    /// The node, where one was looked for.
+    pub node: Option<u32>,
     /// Their bits, in one row.
     pub nodes: Bits,
 }
@@ -48,10 +45,10 @@ fn leading(alloc: Global, needed: &Bits, count: u32, node: u32) -> Result<Bits, 
 impl Above {
     /// No node was looked for yet.
     pub fn new(alloc: Global) -> Self
-        ensures { result.node ≡ NO_NODE }
+        ensures { result.node ≡ None }
     {
         Above {
-            node: NO_NODE,
+            node: None,
             nodes: Bits::new(alloc),
         }
     }
@@ -69,13 +66,13 @@ impl Above {
         requires inside { (a b : ℕ) → is_set needed.now b a ≡ true → a < count }
         requires node { node < count }
         requires kept { KeepsAbove needed.now self.old.nodes self.old.node }
-        ensures node { OnOk result (self.new.node ≡ node) }
+        ensures node { OnOk result (self.new.node ≡ Some node) }
         ensures found { OnOk result (IsAbove needed.now self.new.nodes node) }
         ensures unchanged { OnErr result (self.new ≡ self.old) }
     {
-        if self.node != node {
+        if self.node != Some(node) {
             self.nodes = leading(alloc, needed, count, node)?;
-            self.node = node;
+            self.node = Some(node);
         }
         Ok(())
     }
@@ -102,8 +99,8 @@ impl Above {
         ensures later { IfOk result (λ led. led ≡ false → KeepsWith needed.now edge.0 edge.1 self.new.nodes self.new.node) }
     {
         let (dependent, dependency) = edge;
-        if is_leaf && self.node != dependent && dependency != dependent {
-            self.node = NO_NODE;
+        if is_leaf && self.node != Some(dependent) && dependency != dependent {
+            self.node = None;
             return Ok(false);
         }
         self.look_up(alloc, needed, count, dependent)?;

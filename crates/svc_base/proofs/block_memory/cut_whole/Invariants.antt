@@ -1,5 +1,9 @@
-use Rattle.svc_base.specs.Blocks.{KeepsEntries}
+use Rattle.std.proofs.Common.{◌≡◌, true}
+use Rattle.svc_base.specs.Blocks.{is_index, KeepsEntries}
 use Rattle.svc_base.proofs.block_memory.cut_whole.Given as goal
 
 abbrev pub invariant-loop-part : goal.invariant-loop-part
-invariant-loop-part g l = KeepsEntries l.initial.blocks.items l.blocks.items
+invariant-loop-part g l = record {
+  kept : KeepsEntries l.initial.blocks.items l.blocks.items;
+  index : is_index g.T.Keyed.key_of l.initial.firsts.items l.initial.blocks.items ≡ true → is_index g.T.Keyed.key_of l.firsts.items l.blocks.items ≡ true;
+}

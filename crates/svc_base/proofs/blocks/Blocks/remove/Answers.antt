@@ -13,9 +13,10 @@ overflow_sub-self g c =
 
 pub invariant_of-self : goal.invariant_of-self
 invariant_of-self g c =
-    table-cut g.T.Keyed.key_of c.self.inside.blocks.items c.remove_at.new.blocks.items c.self.inside.count c.self.inside.room c.in-Some.place.block
-    c.in-Some.place.entry c.self.invariant
+    table-cut g.T.Keyed.key_of c.self.inside.blocks.items c.remove_at.new.blocks.items c.self.inside.firsts.items c.remove_at.new.firsts.items
+    c.self.inside.count c.self.inside.room c.in-Some.place.block c.in-Some.place.entry c.self.invariant
     c.remove_at.result c.remove_at.ensures.taken c.remove_at.ensures.entries c.remove_at.ensures.filled c.remove_at.ensures.wide c.remove_at.ensures.some
+    (c.remove_at.ensures.index c.self.invariant.index)
 
 pub returns-in-Some-clause-removed : goal.returns-in-Some-clause-removed
 returns-in-Some-clause-removed g c =

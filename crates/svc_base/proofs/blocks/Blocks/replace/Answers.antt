@@ -10,8 +10,10 @@ invariant_of-self g c =
     let bs = c.self.inside.blocks.items in
     let place = rw (c.key.ensures, c.deref.ensures.value) at c.in-Some.ensures.found in
     let old = entry-at key (key c.args.entry) bs c.in-Some.place.block c.in-Some.place.entry c.args.entry place in
-    table-other key bs c.replace_at.new.blocks.items c.self.inside.count c.self.inside.room c.in-Some.place.block c.in-Some.place.entry c.self.invariant
+    table-other key bs c.replace_at.new.blocks.items c.self.inside.firsts.items c.self.inside.firsts.items c.self.inside.count c.self.inside.room
+    c.in-Some.place.block c.in-Some.place.entry c.self.invariant
     old.0 c.args.entry old.2 old.1 c.replace_at.ensures.entries c.replace_at.ensures.filled c.replace_at.ensures.wide c.replace_at.ensures.same
+    (c.replace_at.ensures.firsts key place c.self.inside.firsts.items c.self.invariant.index)
 
 pub returns-in-Some-clause-replaced : goal.returns-in-Some-clause-replaced
 returns-in-Some-clause-replaced g c =

@@ -1,4 +1,4 @@
-use Rattle.std.proofs.Common.{ℕ, sym, ◌∙◌, subst}
+use Rattle.std.proofs.Common.{ℕ, Option, IfSome, sym, ◌∙◌, subst}
 use Rattle.svc_graph.specs.Ranks.{IsAbove, needs}
 use Rattle.svc_graph.proofs.Reaches.{above-divides, above-edge, leaf-divides}
 use Rattle.svc_graph.proofs.above.Above.leads_back.Goals as goal
@@ -15,11 +15,12 @@ returns-clause-apart c = λ e.
     above-divides c.args.needed.now c.look_up.new.self.nodes c.args.edge.0 c.args.edge.1 c.in_ok-look_up.ensures.found (sym c.has.ensures ∙ e)
 
 pub returns-clause-later : goal.returns-clause-later
-returns-clause-later c = λ e needed_now bits lt.
-    subst (λ (n : ℕ). IsAbove needed_now c.look_up.new.self.nodes n) (sym c.in_ok-look_up.ensures.node)
+returns-clause-later c = λ e needed_now bits.
+    subst (λ (o : Option ℕ). IfSome o (λ n. IsAbove needed_now c.look_up.new.self.nodes n)) (sym c.in_ok-look_up.ensures.node)
     (above-edge c.args.needed.now needed_now c.look_up.new.self.nodes c.args.edge.0 c.args.edge.1 bits (sym c.has.ensures ∙ e)
     c.in_ok-look_up.ensures.found)
 
 pub returns-clause-kept : goal.returns-clause-kept
-returns-clause-kept c = λ lt.
-    subst (λ (n : ℕ). IsAbove c.args.needed.now c.look_up.new.self.nodes n) (sym c.in_ok-look_up.ensures.node) c.in_ok-look_up.ensures.found
+returns-clause-kept c =
+    subst (λ (o : Option ℕ). IfSome o (λ n. IsAbove c.args.needed.now c.look_up.new.self.nodes n)) (sym c.in_ok-look_up.ensures.node)
+    c.in_ok-look_up.ensures.found
