@@ -12,7 +12,6 @@ pub mod ActionBack
 pub mod Back
 pub mod ItemLemmas
 pub mod OptionLemmas
-pub mod PackedLemmas
 pub mod SkippedLemmas
 pub mod PlaceLemmas
 pub mod PartLemmas
