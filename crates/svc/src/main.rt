@@ -6,10 +6,8 @@ use std::env;
 use std::io::IsTerminal;
 use std::process::ExitCode;
 use svc_base::{NoMemory, Reading, Status, Writing};
-use svc_main::serve_script;
-use svc_messages::{
-    Ending, KeptEnd, KeptSource, ProgressSource, explanation, more_refusals, warnings,
-};
+use svc_main::{KeptTexts, serve_script};
+use svc_messages::{Ending, ProgressSource, explanation, last_line, more_refusals, warnings};
 use svc_words::{are_text, words};
 
 /// Tells these notes on standard error.
@@ -41,15 +39,16 @@ fn main(rt: HostRuntime) -> ExitCode {
         return ExitCode::from(7);
     };
     let tells = rt.stderr().is_terminal();
-    let input = ProgressSource::new(&rt, Reading::new(rt.stdin()), tells);
-    let mut source = KeptSource::new(rt.alloc(), input);
-    let mut sink = KeptEnd::new(rt.alloc(), Writing::new(rt.stdout()));
-    let Status(status) = serve_script(rt.alloc(), &words, &mut source, &mut sink);
+    let mut source = ProgressSource::new(&rt, Reading::new(rt.stdin()), tells);
+    let mut sink = Writing::new(rt.stdout());
+    let mut kept = KeptTexts::new(rt.alloc());
+    let Status(status) = serve_script(rt.alloc(), &words, &mut source, &mut sink, &mut kept);
+    let record = kept.text.as_bytes();
     let ending = Ending {
         words: &words,
-        script: source.whole(),
-        record: sink.whole(),
-        line: sink.last_line(),
+        script: Some(kept.script.as_slice()),
+        record,
+        line: last_line(record),
         status,
     };
     let _ = explain(&rt, ending);

@@ -52,7 +52,7 @@ pub(crate) fn answer_jobs(alloc: Global, jobs: JobsText) -> Result<Answer, NoMem
     requires lines { length jobs.script.lines.items ≡ length jobs.script.services.items }
     requires sized { length jobs.script.services.items ≡ length jobs.periods.items }
     requires paced { ArePeriods jobs.periods.items }
-    requires items { AreJobItems jobs.script.items.items }
+    requires items { AreJobItems jobs.script.items }
     ensures { IfOk result (λ a. AnswersJobs (job_parts_of jobs) jobs.script.lines.items a.line (string_bytes a.text)) }
 {
     let JobsText { script, periods } = jobs;
@@ -67,6 +67,14 @@ pub(crate) fn answer_jobs(alloc: Global, jobs: JobsText) -> Result<Answer, NoMem
             } = script;
             drop(lines);
             server.configuration = conf;
+            let items = match items.into_items(alloc) {
+                Ok(items) => items,
+                Err(NoMemory) => {
+                    drop(services);
+                    drop(server);
+                    return Err(NoMemory);
+                }
+            };
             match run_text(alloc, server, &services, &periods, items) {
                 Ok(left) => {
                     drop(services);

@@ -26,7 +26,7 @@ pub(crate) fn read_jobs(alloc: Global, bytes: &[u8]) -> Result<JobsText, ScriptE
     ensures accepted { IfOk result (λ t. AreAccepted t.script.services.items) }
     ensures sized { IfOk result (λ t. length t.script.services.items ≡ length t.periods.items) }
     ensures paced { IfOk result (λ t. ArePeriods t.periods.items) }
-    ensures items { IfOk result (λ t. AreJobItems t.script.items.items) }
+    ensures items { IfOk result (λ t. AreJobItems t.script.items) }
     ensures numbers { IfOk result (λ t. AreLines (script_lines bytes.now) (length t.script.services.items) t.script.lines.items) }
 {
     let Ok(ScriptText { text, periods, .. }) = script_text(alloc, bytes) else {

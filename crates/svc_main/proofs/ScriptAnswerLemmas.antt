@@ -1,5 +1,6 @@
 -- The answer to a script is the program's answer.
-use Rattle.std.proofs.Common.{◌≡◌, ◌≤◌, ◌==◌, ℕ, Bool, true, List, [], ◌∷◌, map, arith, length, Option, Some, None, Result, Ok, Err, IfOk, inl, inr, refl, sym, subst, ◌∙◌, IfSome}
+use Rattle.std.proofs.Common.{◌≡◌, ◌≤◌, ◌==◌, ℕ, Bool, true, List, [], ◌∷◌, map, arith, length, Option, Some, None, Result, Ok, Err, IfOk, OnOk, inl, inr, refl, sym, subst, ◌∙◌, IfSome}
+use Rattle.std.specs.Io.KnownBytes.{Consumes}
 use Rattle.std.specs.Str.Lines.{lines}
 use Rattle.std.proofs.lemmas.Bool.{eqb-true}
 use Rattle.svc_conf.specs.declared.server.configuration.Opt.{Opt}
@@ -43,6 +44,15 @@ script_answer words left read numbers opt parts ReadFault out takes flags same s
 pub if_ok : {A B : Type 0} (P Q : A → Type 0) (r : Result A B) → IfOk r P → ((x : A) → P x → Q x) → IfOk r Q
 if_ok P Q (Ok x) p f = f x p
 if_ok P Q (Err e) p f = tt
+
+pub on_ok : {A B : Type 0} (P : Type 0) (r : Result A B) → P → OnOk r P
+on_ok P (Ok x) p = p
+on_ok P (Err e) p = tt
+
+-- of a source that wasn't read nothing is kept
+pub unread : (left : Option (List ℕ)) (bytes : List ℕ) → bytes ≡ [] → Consumes left left bytes
+unread None bytes e = tt
+unread (Some xs) bytes e = rw e refl
 
 -- the run of a script whose dependencies are sound answers it
 pub ran_answer : (opt : Opt) (parts : Parts) (numbers : List ℕ) (line : StatusLine) (out : List ℕ) → RefusesNone parts.services

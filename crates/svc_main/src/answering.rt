@@ -30,10 +30,9 @@ use std::mem::drop;
 use svc_base::NoMemory;
 use svc_conf::{Opt, ServerConf};
 use svc_graph::services::ServiceWithDependents;
-use svc_record::Item;
 use svc_server::Server;
 use svc_services::{ScriptFilter, ScriptService, configured, server_of_script, server_of_services};
-use svc_text::{RecordText, Script, ScriptError};
+use svc_text::{RecordText, Script, ScriptError, ScriptItems};
 
 /// So many bytes of a record are reckoned for each item of a script.
 const LINES: usize = 48;
@@ -85,16 +84,16 @@ struct FinishedRun<R> {
 fn run_over<R: Recorder + Drop>(
     alloc: Global,
     server: Server<ScriptService, ScriptFilter>,
-    items: Vec<Item>,
+    items: ScriptItems,
     recorder: R,
 ) -> Result<FinishedRun<R>, NoMemory>
-    requires few { All BringsFew items.items }
+    requires few { All BringsFew items }
     requires first { R.shown recorder ≡ [] }
     requires lines { (services : List ServiceLine) × HasLines services (length services) server.dependencies server.filters
         (answers_of ⟦<ScriptService as ServiceWithDependents>⟧ server.services.items) }
     ensures { (opt : Opt) (parts : Parts) → IsServerOf opt parts server.configuration server.options server.eager
         server.dependencies server.filters (answers_of ⟦<ScriptService as ServiceWithDependents>⟧ server.services.items)
-        → parts.items ≡ items.items → IfOk result (λ left. IsRunOf opt parts left.end (R.shown left.recorder)) }
+        → parts.items ≡ items → IfOk result (λ left. IsRunOf opt parts left.end (R.shown left.recorder)) }
 {
     let turns = items.len() as u64 + 1;
     let mut host = RecordingHost::new(items, recorder);
@@ -114,14 +113,14 @@ fn run_over<R: Recorder + Drop>(
 fn run_script(
     alloc: Global,
     server: Server<ScriptService, ScriptFilter>,
-    items: Vec<Item>,
+    items: ScriptItems,
 ) -> Result<Answer, NoMemory>
-    requires few { All BringsFew items.items }
+    requires few { All BringsFew items }
     requires lines { (services : List ServiceLine) × HasLines services (length services) server.dependencies server.filters
         (answers_of ⟦<ScriptService as ServiceWithDependents>⟧ server.services.items) }
     ensures { (opt : Opt) (parts : Parts) → IsServerOf opt parts server.configuration server.options server.eager
         server.dependencies server.filters (answers_of ⟦<ScriptService as ServiceWithDependents>⟧ server.services.items)
-        → parts.items ≡ items.items
+        → parts.items ≡ items
         → IfOk result (λ a. (end : RunEnd) × (a.line ≡ RunLine end) × RanText opt parts end (string_bytes a.text)) }
 {
     let lines = RecordText::new(alloc, items.len().min(MOST_ROOM) * LINES);
@@ -145,15 +144,15 @@ fn run_made(
     alloc: Global,
     n: u32,
     server: Server<ScriptService, ScriptFilter>,
-    items: Vec<Item>,
+    items: ScriptItems,
 ) -> Result<Answer, NoMemory>
     requires size { n ≤ 1024 }
-    requires few { All BringsFew items.items }
+    requires few { All BringsFew items }
     requires lines { (services : List ServiceLine) × HasLines services (length services) server.dependencies server.filters
         (answers_of ⟦<ScriptService as ServiceWithDependents>⟧ server.services.items) }
     requires server { IsServerOf no_flags (made_parts n) server.configuration server.options server.eager
         server.dependencies server.filters (answers_of ⟦<ScriptService as ServiceWithDependents>⟧ server.services.items) }
-    requires items { items.items ≡ map item.Event (made_events n) }
+    requires items { items ≡ map item.Event (made_events n) }
     ensures { IfOk result (λ a. (a.line ≡ RunLine Served) × CountsText n (string_bytes a.text)) }
 {
     let left = run_over(alloc, server, items, RecordCounts::new())?;
@@ -194,7 +193,7 @@ pub(crate) fn answer_made(alloc: Global, n: u32) -> Result<Answer, NoMemory>
 /// The answer to a script with these flags.
 pub(crate) fn answer_script(alloc: Global, opt: Opt, script: Script) -> Result<Answer, NoMemory>
     requires accepted { AreAccepted script.services.items }
-    requires few { All BringsFew script.items.items }
+    requires few { All BringsFew script.items }
     requires lines { length script.lines.items ≡ length script.services.items }
     ensures { IfOk result (λ a. AnswersScript opt (parts_of script) script.lines.items a.line (string_bytes a.text)) }
 {

@@ -12,7 +12,7 @@ use svc_conf::Opt;
 use svc_graph::Kind;
 use svc_record::{Event, Item, ShutdownSignal};
 use svc_socket::Peer;
-use svc_text::{EndpointLine, EndpointLines, ServiceLine};
+use svc_text::{EndpointLine, EndpointLines, ScriptItems, ServiceLine};
 
 fn is_even(k: u32) -> bool
     ensures { result ≡ is_even k }
@@ -101,11 +101,10 @@ pub(crate) fn made_services(alloc: Global, n: u32) -> Result<Vec<ServiceLine>, N
 }
 
 /// Appends an event.
-fn add_event(items: &mut Vec<Item>, event: Event) -> Result<(), NoMemory>
-    ensures { OnOk result (items.new.items ≡ items.old.items ++ item.Event event ∷ []) }
+fn add_event(alloc: Global, items: &mut ScriptItems, event: Event) -> Result<(), NoMemory>
+    ensures { OnOk result (items.new ≡ items.old ++ item.Event event ∷ []) }
 {
-    items.push(Item::Event(event))?;
-    Ok(())
+    items.push(alloc, Item::Event(event))
 }
 
 /// The word of service k that it is ready, where it says so; else its moment once more.
@@ -129,56 +128,56 @@ fn made_moment(k: u32) -> u64
 }
 
 /// Appends the events of service k before its connections.
-fn add_start(items: &mut Vec<Item>, k: u32) -> Result<(), NoMemory>
+fn add_start(alloc: Global, items: &mut ScriptItems, k: u32) -> Result<(), NoMemory>
     requires { k < 1024 }
-    ensures { OnOk result (items.new.items ≡ items.old.items ++ map item.Event (made_start k)) }
+    ensures { OnOk result (items.new ≡ items.old ++ map item.Event (made_start k)) }
 {
-    add_event(items, Event::InUse(k, 0))?;
-    add_event(items, Event::Moment(made_moment(k)))?;
-    add_event(items, Event::Bound(k, 0, k as u64 + 1))?;
-    add_event(items, made_word(k))
+    add_event(alloc, items, Event::InUse(k, 0))?;
+    add_event(alloc, items, Event::Moment(made_moment(k)))?;
+    add_event(alloc, items, Event::Bound(k, 0, k as u64 + 1))?;
+    add_event(alloc, items, made_word(k))
 }
 
 /// Appends a connection of service k that goes well.
-fn add_connection(items: &mut Vec<Item>, k: u32, c: u64) -> Result<(), NoMemory>
-    ensures { OnOk result (items.new.items ≡ items.old.items ++ map item.Event (made_connection k c)) }
+fn add_connection(alloc: Global, items: &mut ScriptItems, k: u32, c: u64) -> Result<(), NoMemory>
+    ensures { OnOk result (items.new ≡ items.old ++ map item.Event (made_connection k c)) }
 {
-    add_event(items, Event::Arrived(k, 0, c, Peer::Unknown))?;
-    add_event(items, Event::Set(c, true))?;
-    add_event(items, Event::Shaken(c, true))?;
-    add_event(items, Event::Finished(c))
+    add_event(alloc, items, Event::Arrived(k, 0, c, Peer::Unknown))?;
+    add_event(alloc, items, Event::Set(c, true))?;
+    add_event(alloc, items, Event::Shaken(c, true))?;
+    add_event(alloc, items, Event::Finished(c))
 }
 
 /// Appends four connections of service k, numbered from c on.
-fn add_connections(items: &mut Vec<Item>, k: u32, c: u64) -> Result<(), NoMemory>
+fn add_connections(alloc: Global, items: &mut ScriptItems, k: u32, c: u64) -> Result<(), NoMemory>
     requires { c < 5000 }
-    ensures { OnOk result (items.new.items ≡ items.old.items ++ map item.Event (made_connections k c)) }
+    ensures { OnOk result (items.new ≡ items.old ++ map item.Event (made_connections k c)) }
 {
-    add_connection(items, k, c)?;
-    add_connection(items, k, c + 1)?;
-    add_connection(items, k, c + 2)?;
-    add_connection(items, k, c + 3)
+    add_connection(alloc, items, k, c)?;
+    add_connection(alloc, items, k, c + 1)?;
+    add_connection(alloc, items, k, c + 2)?;
+    add_connection(alloc, items, k, c + 3)
 }
 
 /// Appends the events of service k.
-fn add_events_of(items: &mut Vec<Item>, k: u32) -> Result<(), NoMemory>
+fn add_events_of(alloc: Global, items: &mut ScriptItems, k: u32) -> Result<(), NoMemory>
     requires { k < 1024 }
-    ensures { OnOk result (items.new.items ≡ items.old.items ++ map item.Event (made_events_of k)) }
+    ensures { OnOk result (items.new ≡ items.old ++ map item.Event (made_events_of k)) }
 {
-    add_start(items, k)?;
-    add_connections(items, k, 4 * k as u64 + 1)
+    add_start(alloc, items, k)?;
+    add_connections(alloc, items, k, 4 * k as u64 + 1)
 }
 
 /// The events of the first n services, and at the end a fast shutdown.
-pub(crate) fn made_items(alloc: Global, n: u32) -> Result<Vec<Item>, NoMemory>
+pub(crate) fn made_items(alloc: Global, n: u32) -> Result<ScriptItems, NoMemory>
     requires { n ≤ 1024 }
-    ensures { IfOk result (λ list. list.items ≡ map item.Event (made_events n)) }
+    ensures { IfOk result (λ list. list ≡ map item.Event (made_events n)) }
 {
-    let mut list = Vec::new(alloc);
+    let mut list = ScriptItems::new(alloc);
     for k in 0..n {
-        add_events_of(&mut list, k)?;
+        add_events_of(alloc, &mut list, k)?;
     }
-    add_event(&mut list, Event::Signal(ShutdownSignal::FastShutdown))?;
+    add_event(alloc, &mut list, Event::Signal(ShutdownSignal::FastShutdown))?;
     Ok(list)
 }
 

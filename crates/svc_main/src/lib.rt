@@ -4,7 +4,7 @@
 mod answering;
 mod counting;
 mod generator;
-mod items_left;
+mod kept;
 mod outcome;
 mod planning;
 mod program;
@@ -14,6 +14,7 @@ mod runs;
 mod text_lines;
 mod words;
 
+pub use kept::KeptTexts;
 pub use outcome::{RunEnd, StatusLine};
 pub use planning::{PlannedScript, plan_script};
 pub use program::{one_answer, serve_script};

@@ -1,8 +1,8 @@
 //! The program as one call.
 
-ghost use Rattle.std.specs.Prelude.{◌≡◌, ◌⊎◌, ◌<◌, ◌++◌, map, List, All, ℕ, IfOk, Some, None, string_bytes};
+ghost use Rattle.std.specs.Prelude.{◌≡◌, ◌≢◌, ◌⊎◌, ◌<◌, ◌++◌, [], map, List, All, ℕ, IfOk, OnOk, Some, None, string_bytes};
 ghost use Rattle.std.specs.Rc.{rc_str_bytes};
-ghost use Rattle.std.specs.Io.KnownBytes.{Appends};
+ghost use Rattle.std.specs.Io.KnownBytes.{Appends, Consumes};
 ghost use Rattle.svc_base.specs.Streams.{Rose};
 ghost use Rattle.svc_record.specs.declared.entry.Entry.{Entry};
 ghost use Rattle.svc_record.specs.Text.{text_of, EntryFits};
@@ -15,34 +15,39 @@ ghost use Rattle.svc_main.specs.CommandWords.{TakesWords, RefusesWords, made_siz
 ghost use Rattle.svc_main.specs.Program.{Ran, Made, RefusedText, IsAnswer, Ends, Faults, Writes, WritesFront, IsWholeScript};
 
 use crate::answering::{Answer, answer_made, answer_script, said};
+use crate::kept::{KeptTexts, read_kept};
 use crate::outcome::StatusLine;
 use crate::words::{made_size, read_words};
 use std::alloc::Global;
 use std::rc::RcStr;
-use svc_base::{NoMemory, ReadAllError, Sink, Source, Status, read_all, write_all};
+use svc_base::{NoMemory, ReadAllError, Sink, Source, Status, write_all};
 use svc_text::{ScriptError, parse};
 
 /// What is to be written, where the words don't ask for the generator.
-fn answer_run<S: Source>(alloc: Global, words: &[RcStr], source: &mut S) -> Result<Answer, NoMemory>
-    requires { made_size (map rc_str_bytes words.now) ≡ None }
+fn answer_run<S: Source>(
+    alloc: Global,
+    words: &[RcStr],
+    source: &mut S,
+    bytes: &mut Vec<u8>,
+) -> Result<Answer, NoMemory>
+    requires run { made_size (map rc_str_bytes words.now) ≡ None }
+    requires unread { bytes.old.items ≡ [] }
     ensures answer { IfOk result (λ a. IsAnswer (map rc_str_bytes words.now) (S.left source.old) a.line (string_bytes a.text)) }
     ensures ended { IfOk result (λ a. Ends (map rc_str_bytes words.now) a.line (S.left source.new)) }
     ensures fault { IfOk result (λ a. Faults a.line (S.faulted source.old) (S.faulted source.new)) }
+    ensures kept { OnOk result (Consumes (S.left source.old) (S.left source.new) bytes.new.items) }
 {
     let Some(opt) = read_words(alloc, words)? else {
         return said(alloc, StatusLine::Words);
     };
-    let bytes = match read_all(alloc, source) {
-        Ok(bytes) => bytes,
+    match read_kept(source, bytes) {
+        Ok(()) => {}
         Err(ReadAllError::Fault) => return said(alloc, StatusLine::ReadFault),
         Err(ReadAllError::TooLong) => return said(alloc, StatusLine::Line(0)),
         Err(ReadAllError::NoMemory) => return Err(NoMemory),
-    };
-    match parse(alloc, &bytes) {
-        Ok(script) => {
-            drop(bytes);
-            answer_script(alloc, opt, script)
-        }
+    }
+    match parse(alloc, bytes.as_slice()) {
+        Ok(script) => answer_script(alloc, opt, script),
         Err(ScriptError::Line(n)) => said(alloc, StatusLine::Line(n as u64)),
         Err(ScriptError::NoMemory) => Err(NoMemory),
     }
@@ -53,29 +58,36 @@ fn make_answer<S: Source>(
     alloc: Global,
     words: &[RcStr],
     source: &mut S,
+    bytes: &mut Vec<u8>,
 ) -> Result<Answer, NoMemory>
+    requires { bytes.old.items ≡ [] }
     ensures answer { IfOk result (λ a. IsAnswer (map rc_str_bytes words.now) (S.left source.old) a.line (string_bytes a.text)) }
     ensures ended { IfOk result (λ a. Ends (map rc_str_bytes words.now) a.line (S.left source.new)) }
     ensures fault { IfOk result (λ a. Faults a.line (S.faulted source.old) (S.faulted source.new)) }
     ensures made { (n : ℕ) → made_size (map rc_str_bytes words.now) ≡ Some n → IfOk result (λ a. a.line ≡ Run Served) }
     ensures unread { (n : ℕ) → made_size (map rc_str_bytes words.now) ≡ Some n → source.new ≡ source.old }
+    ensures kept { OnOk result (Consumes (S.left source.old) (S.left source.new) bytes.new.items) }
 {
     match made_size(words) {
         Some(n) => answer_made(alloc, n),
-        None => answer_run(alloc, words, source),
+        None => answer_run(alloc, words, source, bytes),
     }
 }
 
 /// Serves a script: reads it from the source to its end, runs it, and writes the record and a status
 /// line to the sink. With `gen` and a number it serves so many services of the generator, and writes
 /// how many services were started, endpoints bound and descriptors closed. The words are those after
-/// the program's name.
+/// the program's name. What was read and what was to be written is kept, so that how it ended can be
+/// explained.
 pub fn serve_script<S: Source, K: Sink>(
     alloc: Global,
     words: &[RcStr],
     source: &mut S,
     sink: &mut K,
+    kept: &mut KeptTexts,
 ) -> Status
+    requires { kept.old.script.items ≡ [] }
+
     // Served, tested, or the parent of the process that serves: what was read, to its end, is a script,
     // and what was written is the record of its run with the flags, and how it ended. Or the words ask
     // for the generator, and the counts of its run were written.
@@ -117,10 +129,17 @@ pub fn serve_script<S: Source, K: Sink>(
     // runs out or the source or the sink fails.
     ensures complete { (bytes : List ℕ) (parts : Parts) → S.left source.old ≡ Some bytes → IsWholeScript (map rc_str_bytes words.now) bytes parts
         → (Rose (S.faulted source.old) (S.faulted source.new) → ⊥) → (Rose (K.faulted sink.old) (K.faulted sink.new) → ⊥) → (result.0 ≡ 0) ⊎ (result.0 ≡ 7) }
+
+    // What was read is kept, unless memory ran out, and what was written, unless the sink failed, too.
+    ensures script_kept { result.0 ≢ 7 → Consumes (S.left source.old) (S.left source.new) kept.new.script.items }
+    ensures text_kept { result.0 ≢ 6 → result.0 ≢ 7 → Appends (K.written sink.old) (K.written sink.new) (string_bytes kept.new.text) }
 {
-    match make_answer(alloc, words, source) {
+    match make_answer(alloc, words, source, &mut kept.script) {
         Ok(answer) => match write_all(sink, answer.text.as_bytes()) {
-            Ok(()) => answer.line.status(),
+            Ok(()) => {
+                kept.text = answer.text;
+                answer.line.status()
+            }
             Err(_) => Status(6),
         },
         Err(_) => Status(7),

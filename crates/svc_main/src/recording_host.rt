@@ -6,7 +6,6 @@ ghost use Rattle.svc_record.specs.declared.entry.Entry.TheVariants.{Got};
 ghost use Rattle.svc_server.specs.Hosts.{no_account, tells_failure};
 ghost use Rattle.svc_server.specs.ScriptHosts.{GivesFew, counts_with, handed_with};
 
-use crate::items_left::ItemsLeft;
 use crate::recorder::Recorder;
 use std::alloc::Global;
 use std::marker::Model;
@@ -16,6 +15,7 @@ use svc_graph::services::ServiceWithDependents;
 use svc_history::History;
 use svc_record::{Action, Entry, Event, Item};
 use svc_server::{Host, Next, failures_with};
+use svc_text::ScriptItems;
 
 /// A host that gives the items of a list, one after the other. It keeps the last event, shows each
 /// event and action to a recorder, and lets the services go that it is handed. It tells its account,
@@ -23,7 +23,7 @@ use svc_server::{Host, Next, failures_with};
 #[derive(Drop)]
 pub(crate) struct RecordingHost<R: Recorder, B> {
     /// The items that are left.
-    left: ItemsLeft,
+    left: ScriptItems,
     recorder: R,
     handed: History<(u32, B)>,
     last: Option<Event>,
@@ -55,14 +55,14 @@ impl<R: Recorder, B> Model for RecordingHost<R, B> {
 impl<R: Recorder, B: ServiceWithDependents + Drop> RecordingHost<R, B> {
     /// A host of a run that hasn't begun: it will give these items, in order, of which none brings
     /// more than 32 descriptors.
-    pub(crate) fn new(items: Vec<Item>, recorder: R) -> Self
-        requires few { All GivesFew items.items }
+    pub(crate) fn new(items: ScriptItems, recorder: R) -> Self
+        requires few { All GivesFew items }
         requires first { R.shown recorder ≡ [] }
-        ensures ahead { ⟦<RecordingHost<R, B> as Host>⟧.ahead result ≡ Some items.items }
+        ensures ahead { ⟦<RecordingHost<R, B> as Host>⟧.ahead result ≡ Some items }
         ensures account { ⟦<RecordingHost<R, B> as Host>⟧.account result ≡ Some no_account }
     {
         RecordingHost {
-            left: ItemsLeft::new(items),
+            left: items,
             recorder,
             handed: History::new(),
             last: None,

@@ -10,10 +10,13 @@ use crate::script::first_refusal;
 use crate::spelling::is_one_off;
 use std::alloc::Global;
 use std::str;
-use svc_base::{NoMemory, READ_LIMIT, split_line, split_word};
+use svc_base::{NoMemory, READ_LIMIT, number, split_line, split_word};
 
 /// How many refused lines are told behind the first one at most.
 const MORE: usize = 9;
+
+/// What stands before a refused line's number in a status line.
+const REFUSED: &[u8] = b"status line ";
 
 /// What stands in place of a refused line while more are looked for. Nothing where what follows depends on it.
 #[derive(Clone, Copy, PartialEq, Eq)]
@@ -102,6 +105,12 @@ fn without_line(alloc: Global, bytes: &[u8], number: usize) -> Result<Option<Vec
     }
 }
 
+/// The number that stands in the status line of a refused script.
+fn refused_number(line: &[u8]) -> Option<usize> {
+    let digits = line.strip_prefix(REFUSED)?;
+    Some(number(digits)? as usize)
+}
+
 /// Why further lines of these bytes are refused, where the one with this number is.
 fn refusals_behind(alloc: Global, bytes: &[u8], first: usize) -> Result<Vec<String>, NoMemory>
     ensures messages { IfOk result (λ notes. All (λ note. IsMessage (string_bytes note)) notes.items) }
@@ -110,10 +119,9 @@ fn refusals_behind(alloc: Global, bytes: &[u8], first: usize) -> Result<Vec<Stri
 {
     let mut notes = Vec::new(alloc);
     let mut number = first;
-    let mut text = Vec::new(alloc);
-    text.extend_from_slice(bytes)?;
+    let mut text = without_line(alloc, bytes, number)?;
     for _ in 0..MORE {
-        let Some(next) = without_line(alloc, text.as_slice(), number)? else {
+        let Some(next) = text.take() else {
             return Ok(notes);
         };
         let Some(refusal) = first_refusal(alloc, next.as_slice())? else {
@@ -123,8 +131,8 @@ fn refusals_behind(alloc: Global, bytes: &[u8], first: usize) -> Result<Vec<Stri
             return Ok(notes);
         }
         number = refusal.number;
-        text = next;
         notes.push(refusal.text)?;
+        text = without_line(alloc, next.as_slice(), number)?;
     }
     Ok(notes)
 }
@@ -140,8 +148,8 @@ pub fn more_refusals(alloc: Global, ending: Ending<'_>) -> Result<Vec<String>, N
 {
     match ending.script {
         Some(bytes) if ending.status == 3 && bytes.len() <= READ_LIMIT => {
-            match first_refusal(alloc, bytes)? {
-                Some(first) => refusals_behind(alloc, bytes, first.number),
+            match refused_number(ending.line) {
+                Some(first) => refusals_behind(alloc, bytes, first),
                 None => Ok(Vec::new(alloc)),
             }
         }

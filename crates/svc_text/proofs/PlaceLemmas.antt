@@ -142,7 +142,7 @@ after_header old new line p h t e =
       part = stepped ∙ rw is refl;
       eager = ap (λ (r : Reading). r.eager) e ∙ rw says.2 (or_false old.eager);
       services = ap (λ (r : Reading). r.services.items) e ∙ rw says.0 (sym (append-nil _));
-      items = ap (λ (r : Reading). r.items.items) e ∙ rw says.1 (sym (append-nil _));
+      items = ap (λ (r : Reading). r.items) e ∙ rw says.1 (sym (append-nil _));
     }
 
 -- a line that says nothing
@@ -187,7 +187,7 @@ after_item old new line h said =
       part = ap section_index said.0 ∙ rw is (sym (add-zero n));
       eager = said.2 ∙ ap (λ (b : Bool). old.eager || b) (sym says.2);
       services = said.1 ∙ ap (λ (xs : List ServiceLine). old.services.items ++ xs) (sym says.0);
-      items = said.3 ∙ ap (λ (xs : List Item). old.items.items ++ xs) (sym says.1);
+      items = said.3 ∙ ap (λ (xs : List Item). old.items ++ xs) (sym says.1);
     }
 
 -- ---- text

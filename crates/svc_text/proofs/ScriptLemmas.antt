@@ -69,7 +69,7 @@ pub record HasRead (all rest : List ℕ) (n : ℕ) (r : Reading) : Type 0 where
   pub fit : FitUpTo (lines all) n
   pub said : HasSaid (take n (lines all)) r
 
-pub none_read : (all : List ℕ) (r : Reading) → r.part ≡ Nothing → r.services.items ≡ [] → r.eager ≡ false → r.items.items ≡ [] → HasRead all all 0 r
+pub none_read : (all : List ℕ) (r : Reading) → r.part ≡ Nothing → r.services.items ≡ [] → r.eager ≡ false → r.items ≡ [] → HasRead all all 0 r
 unfolding begun services_in eager_in items_in part_of
 none_read all r p s b e = record {
   rest_is = refl;
@@ -125,7 +125,7 @@ said_more ls line r s h t a = record {
   items = a.items ∙ both (λ (xs : List Item) m. xs ++ said_items m line) h.items h.part ∙ sym (items-push ls line);
   accepted = subst AreAccepted (sym a.services) (accepted_line (section_index r.part) r.eager r.services.items line h.accepted t);
   few = subst (All BringsFew) (sym a.items)
-      (All-append BringsFew r.items.items (said_items (section_index r.part) line) h.few (few_said (section_index r.part) line));
+      (All-append BringsFew r.items (said_items (section_index r.part) line) h.few (few_said (section_index r.part) line));
 }
 
 pub reads_more : (all rest line after : List ℕ) (n : ℕ) (r s : Reading) → HasRead all rest n r → lines rest ≡ line ∷ lines after

@@ -16,9 +16,9 @@ pub record HasSaid (ls : List (List ℕ)) (r : Reading) : Type 0 where
   pub part : section_index r.part ≡ begun ls
   pub services : r.services.items ≡ services_in ls
   pub eager : r.eager ≡ eager_in ls
-  pub items : r.items.items ≡ items_in ls
+  pub items : r.items ≡ items_in ls
   pub accepted : AreAccepted r.services.items
-  pub few : All BringsFew r.items.items
+  pub few : All BringsFew r.items
 
 -- the lines that fit are counted, with the place of the configuration; and where all fit, with what they say
 pub record IsFront (all : List ℕ) (f : ParsedPrefix) : Type 0 where

@@ -14,3 +14,4 @@ pub mod ScriptPlans
 pub mod Filters
 pub mod BlockedNumbers
 pub mod LineTails
+pub mod PackedItems

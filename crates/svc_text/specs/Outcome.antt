@@ -15,7 +15,7 @@ use Rattle.svc_text.specs.declared.reading.LineError.TheVariants as lines
 
 -- what a script says
 abbrev pub parts_of : Script → Parts
-parts_of s = record { conf = s.conf; services = s.services.items; eager = s.eager; items = s.items.items }
+parts_of s = record { conf = s.conf; services = s.services.items; eager = s.eager; items = s.items }
 
 -- the answer is the definition's, unless memory ran out
 abbrev pub Gives : Result Script ScriptError → Result Parts ℕ → Type 0
@@ -34,7 +34,7 @@ pub record After (old : Reading) (line : List ℕ) (new : Reading) : Type 0 wher
   pub part : section_index new.part ≡ section_index old.part + (if is_header line then 1 else 0)
   pub eager : new.eager ≡ (old.eager || said_eager (section_index old.part) line)
   pub services : new.services.items ≡ old.services.items ++ said_services (section_index old.part) line
-  pub items : new.items.items ≡ old.items.items ++ said_items (section_index old.part) line
+  pub items : new.items ≡ old.items ++ said_items (section_index old.part) line
 
 -- the reading after these words, in a line that begins no part and isn't one of the configuration
 abbrev pub Said : Reading → List (List ℕ) → Reading → Type 0
@@ -42,7 +42,7 @@ Said old ws new =
     (new.part ≡ old.part)
     × (new.services.items ≡ old.services.items ++ (if section_index old.part == 2 then option_to_list (service_of ws) else []))
     × (new.eager ≡ (old.eager || ((section_index old.part == 2) && is_eager ws)))
-    × (new.items.items ≡ old.items.items ++ (if section_index old.part == 3 then option_to_list (item_of ws) else []))
+    × (new.items ≡ old.items ++ (if section_index old.part == 3 then option_to_list (item_of ws) else []))
 
 -- a test that was passed, or was the refusal
 abbrev pub Tests : {A : Type 0} → Bool → Result A LineError → Type 0

@@ -9,11 +9,11 @@ ghost use Rattle.svc_text.specs.Accepted.{AreAccepted, BringsFew};
 
 use crate::conf_text::read_conf;
 use crate::front::{ParsedPrefix, parse_prefix};
+use crate::script_items::ScriptItems;
 use crate::service::ServiceLine;
 use std::alloc::Global;
 use std::mem::drop;
 use svc_conf::ServerConf;
-use svc_record::Item;
 use thiserror::Error;
 
 /// What a script says.
@@ -26,7 +26,7 @@ pub struct Script {
     /// Bootstrapping comes first.
     pub eager: bool,
     /// The events, and where the host fails.
-    pub items: Vec<Item>,
+    pub items: ScriptItems,
     /// The number of each service's line.
     pub lines: Vec<usize>,
 }
@@ -68,7 +68,7 @@ fn finished(front: ParsedPrefix, conf: ServerConf) -> Result<Script, ScriptError
 pub fn parse(alloc: Global, bytes: &[u8]) -> Result<Script, ScriptError>
     ensures parts { Gives result (script bytes.now) }
     ensures accepted { IfOk result (λ s. AreAccepted s.services.items) }
-    ensures few { IfOk result (λ s. All BringsFew s.items.items) }
+    ensures few { IfOk result (λ s. All BringsFew s.items) }
     ensures numbers { IfOk result (λ s. AreLines (lines bytes.now) (length s.services.items) s.lines.items) }
 {
     let Ok(front) = parse_prefix(alloc, bytes) else {

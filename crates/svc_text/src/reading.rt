@@ -12,12 +12,12 @@ ghost use Rattle.svc_text.specs.Script.{section_index, is_skipped, is_next, says
 
 use crate::event_lines::item_of_key;
 use crate::part::{Section, header_of};
+use crate::script_items::ScriptItems;
 use crate::service::{ServiceLine, is_eager, service_of_line};
 use std::alloc::{AllocFailed, Global};
 use std::mem::drop;
 use std::str;
 use svc_base::{NoMemory, split_word};
-use svc_record::Item;
 
 /// Why a line wasn't taken.
 #[derive(Clone, Copy)]
@@ -54,7 +54,7 @@ pub struct Reading {
     pub part: Section,
     pub services: Vec<ServiceLine>,
     pub eager: bool,
-    pub items: Vec<Item>,
+    pub items: ScriptItems,
 }
 
 /// The line whose first word this is is a comment.
@@ -89,13 +89,13 @@ impl Reading {
         ensures part { result.part ≡ Nothing }
         ensures services { result.services.items ≡ [] }
         ensures eager { result.eager ≡ false }
-        ensures items { result.items.items ≡ [] }
+        ensures items { result.items ≡ [] }
     {
         Reading {
             part: Section::Nothing,
             services: Vec::new(alloc),
             eager: false,
-            items: Vec::new(alloc),
+            items: ScriptItems::new(alloc),
         }
     }
 
@@ -116,7 +116,7 @@ impl Reading {
         ensures services { OnOk result (self.new.services.items ≡ self.old.services.items ++ option_to_list (service_of (words line.now))) }
         ensures part { OnOk result (self.new.part ≡ self.old.part) }
         ensures eager { OnOk result (self.new.eager ≡ self.old.eager) }
-        ensures items { OnOk result (self.new.items.items ≡ self.old.items.items) }
+        ensures items { OnOk result (self.new.items ≡ self.old.items) }
     {
         let Some(service) = service_of_line(alloc, line)? else {
             return Err(LineError::Refused);
@@ -147,7 +147,7 @@ impl Reading {
         ensures services { OnOk result (self.new.services.items ≡ self.old.services.items ++ option_to_list (service_of (words line.now))) }
         ensures eager { OnOk result (self.new.eager ≡ (self.old.eager || is_eager (words line.now))) }
         ensures part { OnOk result (self.new.part ≡ self.old.part) }
-        ensures items { OnOk result (self.new.items.items ≡ self.old.items.items) }
+        ensures items { OnOk result (self.new.items ≡ self.old.items) }
     {
         if is_eager(line) {
             return self.take_eager();
@@ -157,7 +157,7 @@ impl Reading {
 
     fn take_event(&mut self, alloc: Global, key: &[u8], rest: &[u8]) -> Result<(), LineError>
         ensures test { Tests (is_some (item_of (key.now ∷ words rest.now))) result }
-        ensures items { OnOk result (self.new.items.items ≡ self.old.items.items ++ option_to_list (item_of (key.now ∷ words rest.now))) }
+        ensures items { OnOk result (self.new.items ≡ self.old.items ++ option_to_list (item_of (key.now ∷ words rest.now))) }
         ensures part { OnOk result (self.new.part ≡ self.old.part) }
         ensures services { OnOk result (self.new.services.items ≡ self.old.services.items) }
         ensures eager { OnOk result (self.new.eager ≡ self.old.eager) }
@@ -165,7 +165,7 @@ impl Reading {
         let Some(item) = item_of_key(alloc, key, rest)? else {
             return Err(LineError::Refused);
         };
-        self.items.push(item)?;
+        self.items.push(alloc, item)?;
         Ok(())
     }
 

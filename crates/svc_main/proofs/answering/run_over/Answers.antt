@@ -10,4 +10,4 @@ returns-in-Ok g c =
     run_is opt parts c.in-Ok.end _ c.args.server.configuration (c.len.result + 1) c.new-host.result.left _ server.configuration c.in-Ok.ensures.judged
     (omega (arith, c.len.ensures, ap length items))
     (c.in-Ok.ensures.tells opt parts server)
-    (ap (λ (o : Option (List Item)). unwrap_or o c.args.items.items) c.new-host.ensures.ahead ∙ sym items) c.in-Ok.ensures.takes)
+    (ap (λ (o : Option (List Item)). unwrap_or o c.args.items) c.new-host.ensures.ahead ∙ sym items) c.in-Ok.ensures.takes)

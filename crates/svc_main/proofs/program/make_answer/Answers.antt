@@ -1,5 +1,5 @@
 use Rattle.std.proofs.Common.{sym}
-use Rattle.svc_main.proofs.ScriptAnswerLemmas.{if_ok, made_answer, made_ends, made_faults, none_made}
+use Rattle.svc_main.proofs.ScriptAnswerLemmas.{if_ok, on_ok, unread, made_answer, made_ends, made_faults, none_made}
 use Rattle.svc_main.proofs.program.make_answer.Goals as goal
 
 pub returns-in-Some-clause-answer : goal.returns-in-Some-clause-answer
@@ -23,3 +23,6 @@ returns-in-None-clause-made g c = λ n size. none_made _ n _ (sym c.in-None.ensu
 
 pub returns-in-None-clause-unread : goal.returns-in-None-clause-unread
 returns-in-None-clause-unread g c = λ n size. none_made _ n _ (sym c.in-None.ensures.size) size
+
+pub returns-in-Some-clause-kept : goal.returns-in-Some-clause-kept
+returns-in-Some-clause-kept g c = on_ok _ c.answer_made.result (unread (g.S.Source.left c.args.source.now) c.args.bytes.now.items c.requires)
