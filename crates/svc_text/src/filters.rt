@@ -35,7 +35,13 @@ fn filter_count(lines: &[ServiceLine]) -> usize
     ensures count { result ≡ count_by blocks lines.now }
     ensures few { result ≤ length lines.now }
 {
-    lines.iter().filter(|line| blocks(*line)).count()
+    let mut count = 0;
+    for line in lines {
+        if blocks(line) {
+            count += 1;
+        }
+    }
+    count
 }
 
 /// The number of the filter of a service behind these. Those that block addresses have one each,
