@@ -1,4 +1,4 @@
-use Rattle.std.proofs.Common.{ap, sym, ◌∙◌, arith, length, List, Option, unwrap_or, ◌+◌}
+use Rattle.std.proofs.Common.{ap, sym, ◌∙◌, arith, length, List, Option, unwrap_or}
 use Rattle.svc_record.specs.declared.item.Item.{Item}
 use Rattle.svc_main.proofs.RunLemmas.{run_is}
 use Rattle.svc_main.proofs.answering.run_over.Goals as goal
