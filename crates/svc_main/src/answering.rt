@@ -95,7 +95,13 @@ fn run_over<R: Recorder + Drop>(
         server.dependencies server.filters (answers_of ⟦<ScriptService as ServiceWithDependents>⟧ server.services.items)
         → parts.items ≡ items → IfOk result (λ left. IsRunOf opt parts left.end (R.shown left.recorder)) }
 {
-    let turns = items.len() as u64 + 1;
+    // No list has so many items that there isn't one turn more.
+    let Some(turns) = (items.len() as u64).checked_add(1) else {
+        drop(server);
+        drop(items);
+        drop(recorder);
+        return Err(NoMemory);
+    };
     let mut host = RecordingHost::new(items, recorder);
     match run_items(alloc, server, turns, &mut host) {
         Ok(end) => {

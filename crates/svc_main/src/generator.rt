@@ -177,7 +177,11 @@ pub(crate) fn made_items(alloc: Global, n: u32) -> Result<ScriptItems, NoMemory>
     for k in 0..n {
         add_events_of(alloc, &mut list, k)?;
     }
-    add_event(alloc, &mut list, Event::Signal(ShutdownSignal::FastShutdown))?;
+    add_event(
+        alloc,
+        &mut list,
+        Event::Signal(ShutdownSignal::FastShutdown),
+    )?;
     Ok(list)
 }
 
