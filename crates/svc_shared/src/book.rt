@@ -6,7 +6,7 @@ ghost use Rattle.svc_record.specs.Journal.{post};
 ghost use Rattle.svc_shared.specs.Journals.{IsLegal, end_after};
 ghost use Rattle.svc_shared.specs.Refusals.{IsDue};
 
-use crate::post::Post;
+use crate::journal::Post;
 use crate::told::{copies, take_actions};
 use std::alloc::Global;
 use std::marker::Model;
