@@ -15,8 +15,8 @@ use std::alloc::Global;
 use std::marker::{Brand, Model};
 use std::sync::ledger::{Blank, Ledger};
 use svc_base::NoMemory;
-use svc_socket::{IpNumber, PeerAddr, ip6_number};
 use svc_history::Steps;
+use svc_socket::{IpNumber, PeerAddr, ip6_number};
 use svc_streams::ConnectionFilter;
 
 /// The ranges of one family: what is said of the lowest one, and the later ones. Contracts see them
