@@ -18,5 +18,7 @@ pub mod MemoLemmas
 pub mod NewLemmas
 pub mod PassedLemmas
 pub mod ServedLemmas
+pub mod TailLemmas
+pub mod StrayLemmas
 pub mod DescriptorLemmas
 pub mod NumberLemmas

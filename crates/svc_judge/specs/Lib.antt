@@ -17,4 +17,5 @@ pub mod Chains
 pub mod Still
 pub mod Memos
 pub mod Passed
+pub mod Tails
 pub mod Groups

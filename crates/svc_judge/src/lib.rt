@@ -26,6 +26,8 @@ mod query;
 mod rules;
 mod settled;
 mod still;
+mod tails;
 mod waits;
 
 pub use judging::{Breach, Rule, Verdict, judge};
+pub use tails::{judge_closed, judge_stray};
