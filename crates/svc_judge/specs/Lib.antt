@@ -18,4 +18,5 @@ pub mod Still
 pub mod Memos
 pub mod Passed
 pub mod Tails
+pub mod Binds
 pub mod Groups

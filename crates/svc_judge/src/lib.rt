@@ -3,6 +3,7 @@
 
 mod alone;
 mod anew;
+mod binds;
 mod boot;
 mod chains;
 mod closes;
