@@ -1,18 +1,18 @@
 -- What a bind that ended well leaves of who holds and who waits, where the endpoint has an address for itself.
-use Rattle.std.proofs.Common.{ℕ, suc, Bool, true, false, not, ◌&&◌, ◌||◌, ◌==◌, ◌+◌, ◌<◌, ◌≤◌, nat_le, nat_lt, arith, List, [], ◌∷◌, ◌++◌, length, ◌≡◌, refl, sym, ap, subst, ◌∙◌, cond, map, filter, inl, inr, Option, Some, None, if◌then◌else◌}
-use Rattle.std.specs.List.{list_any, list_all, range_with_len}
+use Rattle.std.proofs.Common.{ℕ, suc, Bool, true, false, not, ◌&&◌, ◌||◌, ◌==◌, ◌<◌, ◌≤◌, nat_le, nat_lt, arith, List, [], ◌∷◌, length, ◌≡◌, refl, sym, ap, ◌∙◌, cond, map, filter, inl, inr, Option, Some, None, if◌then◌else◌}
+use Rattle.std.specs.List.{list_any, list_all}
 use Rattle.std.proofs.lemmas.Bool.{false≢true, cases_Bool, eq-eqb, eqb-true, or_cases, or_left, or_right, leb-true, lt-ltb}
 use Rattle.svc_base.proofs.Logic.{apart_from}
 use Rattle.svc_record.specs.declared.plan.Plan.{Plan}
 use Rattle.svc_record.specs.declared.entry.Entry.TheVariants.{Got}
 use Rattle.svc_record.specs.declared.event.Event.TheVariants.{Bound}
 use Rattle.svc_record.specs.Record.{Record, has, now}
-use Rattle.svc_record.specs.Plans.{services, service_count, endpoint_numbers, address, same_address}
+use Rattle.svc_record.specs.Plans.{services, endpoint_numbers, address, same_address}
 use Rattle.svc_record.specs.Descriptors.{Descriptor, live_descriptors, live_numbers_with, has_live, is_close}
 use Rattle.svc_record.specs.Asks.{is_ask_open}
 use Rattle.svc_record.specs.Failed.{has_failed}
 use Rattle.svc_record.specs.Endpoints.{held_numbers, is_held, is_one_of, holds, is_at_work, in_use_within, rests, is_busy, is_busy_elsewhere, waits_at, first_missing, waits_from, waits, endpoint_right, endpoint_right_late}
-use Rattle.svc_record.proofs.Sound.{both, below}
+use Rattle.svc_record.proofs.Sound.{both}
 use Rattle.svc_judge.specs.Binds.{is_far, is_alone}
 use Rattle.svc_judge.specs.Holding.{lets_hold}
 use Rattle.svc_judge.proofs.EndpointLemmas.{held_step}

@@ -1,6 +1,6 @@
 -- After a bind that ended well, and the one of the service's next endpoint, no rule is broken, where none is broken before.
-use Rattle.std.proofs.Common.{ℕ, Bool, true, false, not, ◌&&◌, ◌||◌, ◌==◌, ◌+◌, ◌<◌, ◌≤◌, arith, nat_lt, List, [], ◌∷◌, length, ◌≡◌, refl, sym, ap, subst, ◌∙◌, inl, inr, Option, Some, None, if◌then◌else◌}
-use Rattle.std.specs.List.{list_any, list_all}
+use Rattle.std.proofs.Common.{ℕ, Bool, true, false, not, ◌&&◌, ◌||◌, ◌==◌, ◌+◌, ◌<◌, ◌≤◌, arith, nat_lt, [], ◌∷◌, length, ◌≡◌, refl, sym, ap, subst, ◌∙◌, inl, inr, None, if◌then◌else◌}
+use Rattle.std.specs.List.{list_all, range_with_len}
 use Rattle.std.proofs.lemmas.Bool.{false≢true, cases_Bool, cases_lt, eq-eqb, eqb-true, ltb-true}
 use Rattle.svc_base.proofs.Logic.{apart_from}
 use Rattle.svc_record.specs.declared.plan.Plan.{Plan}
@@ -8,14 +8,14 @@ use Rattle.svc_record.specs.declared.entry.Entry.TheVariants.{Got, Told}
 use Rattle.svc_record.specs.declared.event.Event.TheVariants.{Bound}
 use Rattle.svc_record.specs.declared.action.Action.TheVariants.{Bind}
 use Rattle.svc_record.specs.Record.{Record, has, times, from_the_start, each_entry}
-use Rattle.svc_record.specs.Plans.{services, service_count, endpoints, endpoint_numbers, address, same_address, is_endpoint, any_with}
+use Rattle.svc_record.specs.Plans.{service_count, endpoints, endpoint_numbers, address, same_address, is_endpoint, any_with}
 use Rattle.svc_record.specs.Descriptors.{brings, has_live, is_close, is_opened, one_live}
 use Rattle.svc_record.specs.Failed.{has_failed}
-use Rattle.svc_record.specs.Asks.{is_bind_open}
-use Rattle.svc_record.specs.Endpoints.{is_at_work, is_busy, endpoint_right, endpoint_right_late, endpoints_right, endpoints_right_late}
+use Rattle.svc_record.specs.Asks.{is_bind_open, is_ask_open}
+use Rattle.svc_record.specs.Endpoints.{is_held, is_at_work, is_busy, endpoint_right, endpoint_right_late, endpoints_right, endpoints_right_late}
 use Rattle.svc_record.specs.AskRules.{has_turn, ask_due, fails_right}
 use Rattle.svc_record.specs.Boot.{may_begin, is_side_child, boot_right, boot_entries_right, stands_first, fork_first, start_after_boot}
-use Rattle.svc_record.specs.Closes.{is_broadcast, closes_right, close_once, is_address_abandoned}
+use Rattle.svc_record.specs.Closes.{is_broadcast, close_once}
 use Rattle.svc_record.specs.Ends.{has_ended}
 use Rattle.svc_record.specs.Fits.{is_new, fits_row}
 use Rattle.svc_record.specs.Offer.{one_ask}
@@ -23,7 +23,7 @@ use Rattle.svc_record.specs.Right.{in_service}
 use Rattle.svc_record.proofs.Sound as sound
 use Rattle.svc_record.proofs.Complete as complete
 use Rattle.svc_record.proofs.Sound.{both}
-use Rattle.svc_judge.specs.Verdicts.{unless, at, entry_breach, are_endpoints_kept, open_breach, settled_breach_by, step_breach, place_breach, breach_below}
+use Rattle.svc_judge.specs.Verdicts.{at, entry_breach, are_endpoints_kept, open_breach, step_breach, place_breach, breach_below}
 use Rattle.svc_judge.specs.declared.judging.Rule.TheVariants as rules
 use Rattle.svc_judge.specs.Binds.{is_far, is_alone, names_it, has_own_address, is_free, binds_well, is_next_bound, is_well_bound}
 use Rattle.svc_judge.proofs.VerdictLemmas.{and, neither, no_rule, entries, entry_keeps, EntryKeeps, OpenKeeps, settled_kept, step_keeps, step_clear, before_event}
@@ -205,8 +205,9 @@ module _ (p : Plan) (b : Record) (s i fd : ℕ) (w : Well p b s i) (k : Base p b
 
     inside : j < length (endpoints p s)
     inside =
-        let parts = both ((is_endpoint p s j && is_at_work p bound s) && list_all _ _) _ turn in
-        let earlier = both (is_endpoint p s j && is_at_work p bound s) (list_all _ _) parts.0 in
+        let below = list_all (is_held p bound s) (range_with_len 0 j) in
+        let parts = both ((is_endpoint p s j && is_at_work p bound s) && below) (not (is_held p bound s j) && not (is_ask_open bound s j)) turn in
+        let earlier = both (is_endpoint p s j && is_at_work p bound s) below parts.0 in
         ltb-true j (length (endpoints p s)) ((both (is_endpoint p s j) (is_at_work p bound s) earlier.0).0)
 
     told_right : (t m : ℕ) → t < service_count p → m < length (endpoints p t) → endpoint_right p b t m ≡ true → endpoint_right p told t m ≡ true

@@ -1,7 +1,7 @@
 -- What the bind of an endpoint that is told leaves of who holds and who waits.
-use Rattle.std.proofs.Common.{ℕ, suc, zero, Bool, true, false, not, ◌&&◌, ◌||◌, ◌==◌, ◌+◌, ◌<◌, ◌≤◌, nat_le, arith, List, [], ◌∷◌, length, ◌≡◌, refl, sym, ap, ◌∙◌, inl, inr, Option, Some, None, if◌then◌else◌}
+use Rattle.std.proofs.Common.{ℕ, suc, zero, Bool, true, false, not, ◌&&◌, ◌||◌, ◌==◌, ◌+◌, ◌<◌, ◌≤◌, nat_le, arith, List, [], ◌∷◌, length, ◌≡◌, refl, ap, ◌∙◌, inl, inr, Option, Some, None, if◌then◌else◌}
 use Rattle.std.specs.List.{list_any, list_all, range_with_len}
-use Rattle.std.proofs.lemmas.Bool.{false≢true, cases_Bool, eq-eqb, or_cases, or_left, or_right, le-leb}
+use Rattle.std.proofs.lemmas.Bool.{cases_Bool, eq-eqb, or_cases, or_left, or_right, le-leb}
 use Rattle.std.proofs.Math.Decide.{ℕ_discrete}
 use Rattle.svc_base.proofs.Logic.{apart_from}
 use Rattle.svc_record.specs.declared.plan.Plan.{Plan}

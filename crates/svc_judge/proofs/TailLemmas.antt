@@ -14,7 +14,7 @@ use Rattle.svc_record.specs.declared.action.Action.TheVariants.{Cut, Close}
 use Rattle.svc_record.specs.Record.{Record, has, tell}
 use Rattle.svc_record.specs.Descriptors.{brings, numbers_of}
 use Rattle.svc_record.specs.Connections.{live_connections}
-use Rattle.svc_record.specs.Tail.{numbers_in, with_event, is_of, tail_right}
+use Rattle.svc_record.specs.Tail.{numbers_in, with_event, is_of}
 use Rattle.svc_record.proofs.Sound.{both}
 use Rattle.svc_judge.specs.Endings.{is_uncut}
 use Rattle.svc_judge.specs.Numbers.{live_in}

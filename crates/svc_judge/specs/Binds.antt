@@ -1,5 +1,5 @@
 -- Where a bind that ended well, and the one of the service's next endpoint, leave all else that is asked of a record.
-use Rattle.std.specs.Prelude.{ℕ, Bool, true, false, ◌==◌, ◌+◌, not, ◌&&◌, ◌||◌, List, [], ◌∷◌, length, nat_lt, Option, Some, None}
+use Rattle.std.specs.Prelude.{ℕ, Bool, true, false, ◌==◌, ◌+◌, not, ◌&&◌, ◌||◌, List, ◌∷◌, length, nat_lt, Option, Some, None}
 use Rattle.svc_record.specs.declared.plan.Plan.{Plan}
 use Rattle.svc_record.specs.declared.entry.Entry.TheVariants.{Got, Told}
 use Rattle.svc_record.specs.declared.event.Event.TheVariants.{Bound}

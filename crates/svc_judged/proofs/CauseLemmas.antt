@@ -8,8 +8,8 @@ use Rattle.svc_judging.specs.declared.status_lines.RecordEnd.{RecordEnd}
 use Rattle.svc_judged.specs.declared.judgement.Judgement.{Judgement}
 use Rattle.svc_judged.specs.declared.judgement.Judgement.TheVariants as said
 use Rattle.svc_judged.specs.declared.ending.Ending.{Ending}
-use Rattle.svc_judged.specs.declared.ending.Ending.TheVariants.{Judged, NotRight, Words, Line, ScriptLine, Config, ReadFault, WriteFault, NoMemory}
-use Rattle.svc_judged.specs.Judgements.{judgement_by, ending_of, IsSaid, IsJudged, RefusesText, IsRefusal, HasCause}
+use Rattle.svc_judged.specs.declared.ending.Ending.TheVariants.{Judged, NotRight, Line, ReadFault, WriteFault, NoMemory}
+use Rattle.svc_judged.specs.Judgements.{judgement_by, ending_of, IsSaid, IsRefusal, HasCause}
 
 -- what holds of the bytes that were read holds of those that the source had
 pub of_source : (o : Option (List ℕ)) (v : List ℕ) (P : List ℕ → Type 0) → IfSome o (λ bytes. v ≡ bytes) → P v → IfSome o P
