@@ -13,7 +13,7 @@ use Rattle.svc_record.specs.Descriptors.{brings, has_live, is_close, is_opened, 
 use Rattle.svc_record.specs.Failed.{has_failed}
 use Rattle.svc_record.specs.Asks.{is_bind_open, is_ask_open}
 use Rattle.svc_record.specs.Endpoints.{is_held, is_at_work, is_busy, endpoint_right, endpoint_right_late, endpoints_right, endpoints_right_late}
-use Rattle.svc_record.specs.AskRules.{has_turn, ask_due, fails_right}
+use Rattle.svc_record.specs.AskRules.{has_turn, fails_right}
 use Rattle.svc_record.specs.Boot.{may_begin, is_side_child, boot_right, boot_entries_right, stands_first, fork_first, start_after_boot}
 use Rattle.svc_record.specs.Closes.{is_broadcast, close_once}
 use Rattle.svc_record.specs.Ends.{has_ended}
@@ -24,7 +24,6 @@ use Rattle.svc_record.proofs.Sound as sound
 use Rattle.svc_record.proofs.Complete as complete
 use Rattle.svc_record.proofs.Sound.{both}
 use Rattle.svc_judge.specs.Verdicts.{at, entry_breach, are_endpoints_kept, open_breach, step_breach, place_breach, breach_below}
-use Rattle.svc_judge.specs.declared.judging.Rule.TheVariants as rules
 use Rattle.svc_judge.specs.Binds.{is_far, is_alone, names_it, has_own_address, is_free, binds_well, is_next_bound, is_well_bound}
 use Rattle.svc_judge.proofs.VerdictLemmas.{and, neither, no_rule, entries, entry_keeps, EntryKeeps, OpenKeeps, settled_kept, step_keeps, step_clear, before_event}
 use Rattle.svc_judge.proofs.NewLemmas.{before, at_event, open_from}
@@ -235,7 +234,8 @@ module _ (p : Plan) (b : Record) (s i fd : ℕ) (w : Well p b s i) (k : Base p b
         let parts = both (boot_entries_right p b) _ k.held.boot in
         let each = both (each_entry stands_first b && each_entry (fork_first p) b) (each_entry (start_after_boot p) b) parts.1 in
         let first = both (each_entry stands_first b) (each_entry (fork_first p) b) each.0 in
-        let fork = and (fork_first p (Told (Bind s j)) b) (each_entry (fork_first p) b) (or_middle (not p.daemon) false (has is_side_child b) w.begun) first.1 in
+        let child = or_middle (not p.daemon) false (has is_side_child b) w.begun in
+        let fork = and (fork_first p (Told (Bind s j)) b) (each_entry (fork_first p) b) child first.1 in
         and (boot_entries_right p told) ((each_entry stands_first told && each_entry (fork_first p) told) && each_entry (start_after_boot p) told) parts.0
         (and (each_entry stands_first told && each_entry (fork_first p) told) (each_entry (start_after_boot p) told)
         (and (each_entry stands_first told) (each_entry (fork_first p) told) first.0 fork) each.1)

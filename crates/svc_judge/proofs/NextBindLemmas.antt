@@ -97,9 +97,9 @@ module _ (p : Plan) (q : Record) (s j : ℕ) where
   -- the endpoint whose turn it was waits, and so does each behind it
   waits_now : (k : ℕ) → has_turn p q s j ≡ true → j ≤ k → j < length (endpoints p s) → waits p after s k ≡ true
   waits_now k turn high inside =
-      let parts = both ((is_endpoint p s j && is_at_work p q s) && list_all (is_held p q s) (range_with_len 0 j)) (not (is_held p q s j) && not (is_ask_open q s j))
-      turn in
-      let earlier = both (is_endpoint p s j && is_at_work p q s) (list_all (is_held p q s) (range_with_len 0 j)) parts.0 in
+      let held = list_all (is_held p q s) (range_with_len 0 j) in
+      let parts = both ((is_endpoint p s j && is_at_work p q s) && held) (not (is_held p q s j) && not (is_ask_open q s j)) turn in
+      let earlier = both (is_endpoint p s j && is_at_work p q s) held parts.0 in
       let missing = apart_from (is_held p q s j) ((both (not (is_held p q s j)) (not (is_ask_open q s j)) parts.1).0) in
       ap (waits_from p after s k)
       (first_at p q s (length (endpoints p s)) 0 j (omega arith) (omega (arith, inside)) (λ m low. below (is_held p q s) j m earlier.1 low) missing)

@@ -3,12 +3,10 @@ use Rattle.std.proofs.Common.{ℕ, zero, suc, Bool, true, false, not, ◌==◌, 
 use Rattle.std.specs.List.{list_any, list_all, find, range_with_len}
 use Rattle.std.proofs.lemmas.Bool.{false≢true, cases_Bool, lt-ltb, le-ltb}
 use Rattle.std.proofs.lemmas.List.{take-append-drop}
-use Rattle.std.proofs.lemmas.List.Folds.{list_any-append, list_all-append}
+use Rattle.std.proofs.lemmas.List.Folds.{list_any-append}
 use Rattle.svc_record.specs.declared.plan.Plan.{Plan}
-use Rattle.svc_record.specs.declared.entry.Entry.{Entry}
 use Rattle.svc_record.specs.declared.entry.Entry.TheVariants.{Got, Told}
 use Rattle.svc_record.specs.declared.event.Event.{Event}
-use Rattle.svc_record.specs.declared.event.Event.TheVariants.{Arrived}
 use Rattle.svc_record.specs.declared.action.Action.{Action}
 use Rattle.svc_record.specs.declared.action.Action.TheVariants.{Cut, Close}
 use Rattle.svc_record.specs.Record.{Record, has, tell}
@@ -17,7 +15,6 @@ use Rattle.svc_record.specs.Connections.{live_connections}
 use Rattle.svc_record.specs.Tail.{numbers_in, with_event, is_of}
 use Rattle.svc_record.proofs.Sound.{both}
 use Rattle.svc_judge.specs.Endings.{is_uncut}
-use Rattle.svc_judge.specs.Numbers.{live_in}
 use Rattle.svc_judge.specs.declared.judging.Rule.TheVariants as rules
 use Rattle.svc_judge.specs.declared.judging.Breach.{Breach}
 use Rattle.svc_judge.specs.Verdicts.{breach_of}
@@ -37,25 +34,6 @@ arrival_asked whole f c = elim (cases_Bool (is_uncut whole c)) [ inl h ↦ rw (h
     and-true : (b : Bool) → (b && true) ≡ b
     and-true true = refl
     and-true false = refl
-
--- what is asked of each live connection is asked of the one that the newest entry brings, and of the others
-pub live_asked : (whole : Record) (f : ℕ → Bool) (e : Entry) (q : Record)
-    → list_all f (live_in whole (e ∷ q)) ≡ (list_all f (live_in whole (e ∷ [])) && list_all f (live_in whole q))
-live_asked whole f (Got (Arrived s i c peer)) q = elim (cases_Bool (is_uncut whole c)) [
-  | inl h ↦ rw (h) (ap (λ b. b && list_all f (live_in whole q)) (sym (and-true (f c))))
-  | inr h ↦ rw (h) refl
-]
-  where
-    and-true : (b : Bool) → (b && true) ≡ b
-    and-true true = refl
-    and-true false = refl
-live_asked whole f _ q = refl
-
--- so is what is asked of each descriptor that came
-pub closed_asked : (whole : Record) (e : Entry) (q : Record)
-    → list_all (is_closed_in whole) (numbers_in (e ∷ q))
-    ≡ (list_all (is_closed_in whole) (numbers_of e) && list_all (is_closed_in whole) (numbers_in q))
-closed_asked whole e q = list_all-append (is_closed_in whole) (numbers_of e) (numbers_in q)
 
 -- what the entries tell, the oldest first
 told_by : Record → List Action
@@ -148,7 +126,8 @@ unfolding Closed
 behind_right p r n right h =
     (drop n r, tail_is p r (drop n r) (take n r) None (sym (take-append-drop n r)) right (no_rule (length r) _ h))
 
-behind_shorter : (p : Plan) (r : Record) (b : Breach) (ns : List ℕ) (o : Option ℕ) → find (is_right_before p r) ns ≡ o → shorter_breach r b o ≡ None → Closed p r
+behind_shorter : (p : Plan) (r : Record) (b : Breach) (ns : List ℕ) (o : Option ℕ) → find (is_right_before p r) ns ≡ o
+    → shorter_breach r b o ≡ None → Closed p r
 behind_shorter p r b ns None f h = cc
 behind_shorter p r b ns (Some n) f h = behind_right p r n (none_is (breach_of p (drop n r)) (find_holds (is_right_before p r) ns n f)) h
 

@@ -296,6 +296,7 @@ fn shorter_breach(
 }
 
 /// The breach, where the last entry before the tail isn't its place, or else that of a shorter tail.
+#[tactic(auto, using(crate::proofs::TailLemmas::earlier_is, crate::proofs::TailLemmas::later_is))]
 fn later_breach(
     alloc: Global,
     plan: &Plan,

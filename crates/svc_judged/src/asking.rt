@@ -1,11 +1,11 @@
 //! What the words ask for.
 
-ghost use Rattle.std.specs.Prelude.{◌≡◌, ℕ, reverse, IfOk, IfErr, IfSome};
+ghost use Rattle.std.specs.Prelude.{◌≡◌, reverse, IfOk, IfErr, IfSome};
 ghost use Rattle.std.specs.Str.Lines.{lines};
 ghost use Rattle.svc_base.specs.Streams.{Rose};
 ghost use Rattle.svc_judging.specs.Readings.{AreRecord};
-ghost use Rattle.svc_judged.specs.declared.ending.Ending.TheVariants.{Judged, NotRight, ReadFault, Line};
-ghost use Rattle.svc_judged.specs.Judgements.{HasCause, IsRefusal, RefusesText};
+ghost use Rattle.svc_judged.specs.declared.ending.Ending.TheVariants.{ReadFault};
+ghost use Rattle.svc_judged.specs.Judgements.{HasCause, IsRefusal};
 
 use crate::ending::Ending;
 use crate::judgement::judge_record;
