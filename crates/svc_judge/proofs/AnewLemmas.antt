@@ -13,7 +13,7 @@ use Rattle.svc_record.specs.Record.{Record, each_entry}
 use Rattle.svc_record.specs.Connections.{Arrival, arrivals, connection_right}
 use Rattle.svc_judge.specs.Anew.{earlier, each_new, touches, is_touched, is_connection_kept, connections_kept}
 
-neither_holds : (a b : Bool) → (a || b) ≡ false → (a ≡ false) × (b ≡ false)
+pub neither_holds : (a b : Bool) → (a || b) ≡ false → (a ≡ false) × (b ≡ false)
 neither_holds true b h = absurd (false≢true (sym h))
 neither_holds false b h = (refl, h)
 

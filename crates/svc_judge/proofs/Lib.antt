@@ -16,7 +16,13 @@ pub mod StillLemmas
 pub mod IdleLemmas
 pub mod MemoLemmas
 pub mod NewLemmas
+pub mod NewDescriptorLemmas
+pub mod BoundHoldLemmas
+pub mod NextBindLemmas
+pub mod BoundLemmas
 pub mod PassedLemmas
 pub mod ServedLemmas
+pub mod TailLemmas
+pub mod StrayLemmas
 pub mod DescriptorLemmas
 pub mod NumberLemmas

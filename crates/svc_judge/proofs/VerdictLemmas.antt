@@ -168,7 +168,7 @@ open_kept p q h =
     and _ _ (and _ _ (and _ _ (and _ _ k.boot k.offer) (and _ _ k.connections k.closes)) (and _ _ k.one_live started))
     (and _ _ held.1 (and _ _ k.phases k.ending))
 
-settled_kept : (p : Plan) (q : Record) → settled_breach_by (boot_right p q) (conn_right p q) p q ≡ None → settled_right p q ≡ true
+pub settled_kept : (p : Plan) (q : Record) → settled_breach_by (boot_right p q) (conn_right p q) p q ≡ None → settled_right p q ≡ true
 settled_kept p q h = elim (cases_Bool (has_ended p q)) [
   | inl y ↦ (let g : unless (ended_right p q) rules.Ended None ≡ None = rw (y) at h in rw (y) ((kept (ended_right p q) rules.Ended None g).0))
   | inr n ↦ (let g : open_breach p q ≡ None = rw (n) at h in rw (n) (open_kept p q g))

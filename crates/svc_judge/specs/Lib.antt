@@ -17,4 +17,6 @@ pub mod Chains
 pub mod Still
 pub mod Memos
 pub mod Passed
+pub mod Tails
+pub mod Binds
 pub mod Groups

@@ -17,6 +17,7 @@ use Rattle.svc_judge.specs.Firsts.{first_of}
 use Rattle.svc_judge.specs.Verdicts.{unless, at, entry_breach, settled_breach_by}
 use Rattle.svc_judge.specs.Anew.{only_connections, connection_breach, boot_kept, conn_kept}
 use Rattle.svc_judge.specs.Still.{is_idle}
+use Rattle.svc_judge.specs.Binds.{is_well_bound}
 use Rattle.svc_judge.specs.declared.judging.Rule.{Rule}
 use Rattle.svc_judge.specs.declared.judging.Rule.TheVariants as rules
 use Rattle.svc_judge.specs.declared.judging.Breach.{Breach}
@@ -40,7 +41,9 @@ step_anew_by boots connects p q =
 
 -- the first rule that a settled prefix breaks, where none is broken up to the one before it
 abbrev pub late_breach : Plan → Record → Option Rule
-late_breach p q = if only_connections q then connection_breach p q else (if is_idle p q then None else step_anew_by (boot_kept p q) (conn_kept p q) p q)
+late_breach p q =
+    if only_connections q then connection_breach p q else
+    (if is_idle p q then None else (if is_well_bound p q then None else step_anew_by (boot_kept p q) (conn_kept p q) p q))
 
 -- the breach at an entry, where none is broken up to it
 abbrev pub late_place_breach : Plan → Entry → Record → Option Breach

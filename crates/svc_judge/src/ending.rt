@@ -51,7 +51,7 @@ fn put_number(numbers: &mut Vec<u64>, number: u64) -> Result<(), NoMemory>
 }
 
 /// The connection that the entry brings.
-fn arrival(entry: &Entry) -> Option<u64>
+pub(crate) fn arrival(entry: &Entry) -> Option<u64>
     ensures { option_to_list result ≡ arrived_numbers (entry.now ∷ []) }
 {
     match entry {

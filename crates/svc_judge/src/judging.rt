@@ -14,6 +14,7 @@ ghost use Rattle.svc_judge.specs.Verdicts.{at, entry_breach, open_breach_by, set
 
 use crate::alone::{connection_known, connections_kept};
 use crate::anew::{boot_kept, conn_kept, each_new, only_connections};
+use crate::binds::is_well_bound;
 use crate::chains::Chains;
 use crate::closes::closes_right;
 use crate::descriptors::one_live;
@@ -318,6 +319,8 @@ fn late_breach(
     if only_connections(past.entries) {
         Ok(connection_breach(past, chains))
     } else if memo.is_idle(past) {
+        Ok(None)
+    } else if is_well_bound(past) {
         Ok(None)
     } else {
         step_anew(alloc, past, chains)

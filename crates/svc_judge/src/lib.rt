@@ -3,6 +3,7 @@
 
 mod alone;
 mod anew;
+mod binds;
 mod boot;
 mod chains;
 mod closes;
@@ -26,6 +27,8 @@ mod query;
 mod rules;
 mod settled;
 mod still;
+mod tails;
 mod waits;
 
 pub use judging::{Breach, Rule, Verdict, judge};
+pub use tails::{judge_closed, judge_stray};

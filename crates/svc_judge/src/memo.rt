@@ -9,7 +9,7 @@ ghost use Rattle.svc_record.specs.declared.entry.Entry.TheVariants.{Got};
 ghost use Rattle.svc_record.specs.declared.event.Event.TheVariants.{Moment};
 ghost use Rattle.svc_judge.specs.Chains.{IsChains};
 ghost use Rattle.svc_judge.specs.Still.{is_still, is_idle};
-ghost use Rattle.svc_judge.specs.Memos.{IsMemo};
+ghost use Rattle.svc_judge.specs.Memos.{IsMemo, is_of_service, ended_alone};
 ghost use Rattle.svc_judge.specs.Pasts.{IsPast, plan_of, record_of};
 
 use crate::alone::alone_fits;
@@ -19,7 +19,7 @@ use crate::looking::now;
 use crate::past::Past;
 use crate::still::is_at_moment;
 use crate::{fits, still, waits};
-use svc_record::{Entry, Event};
+use svc_record::{Action, Entry, Event};
 
 /// Whether an endpoint accepts.
 #[derive(Clone, Copy)]
@@ -35,6 +35,31 @@ pub(crate) struct Memo {
     ended: Option<bool>,
     still: Option<bool>,
     accepting: Option<Accepting>,
+}
+
+/// The entry is of a service, of an endpoint, or a close, by none of which a run ends.
+fn is_of_service(entry: &Entry) -> bool
+    ensures { result ≡ is_of_service entry.now }
+{
+    match entry {
+        Entry::Got(
+            Event::Ready(_)
+            | Event::Ended(_)
+            | Event::Bound(_, _, _)
+            | Event::InUse(_, _)
+            | Event::BindFailed(_, _)
+            | Event::Adopted(_, _)
+            | Event::AdoptFailed(_, _),
+        ) => true,
+        Entry::Told(
+            Action::Start(_)
+            | Action::Fail(_)
+            | Action::Bind(_, _)
+            | Action::Adopt(_, _, _)
+            | Action::Close(_),
+        ) => true,
+        _ => false,
+    }
 }
 
 impl Memo {
@@ -73,13 +98,27 @@ impl Memo {
         }
     }
 
+    /// Whether the run has ended, where that is known, and nothing else.
+    fn ended_alone(self) -> Self
+        ensures { result ≡ ended_alone self }
+    {
+        Memo {
+            ended: self.ended,
+            still: None,
+            accepting: None,
+        }
+    }
+
     /// What is known without the newest entry.
-    #[tactic(auto, using(crate::proofs::MemoLemmas::memo_before))]
+    #[tactic(auto, using(crate::proofs::MemoLemmas::memo_before, crate::proofs::MemoLemmas::memo_service))]
     pub(crate) fn before(self, entry: &Entry, before: &[Entry]) -> Self
         ensures { (p : Plan) → IsMemo self p (entry.now ∷ before.now) → IsMemo result p before.now }
     {
         if is_of_connection(entry) {
             return self;
+        }
+        if is_of_service(entry) {
+            return self.ended_alone();
         }
         match entry {
             Entry::Got(Event::Moment(ms)) => self.before_moment(*ms, before),

@@ -1,5 +1,12 @@
 //! What the words ask for.
 
+ghost use Rattle.std.specs.Prelude.{◌≡◌, reverse, IfOk, IfErr, IfSome};
+ghost use Rattle.std.specs.Str.Lines.{lines};
+ghost use Rattle.svc_base.specs.Streams.{Rose};
+ghost use Rattle.svc_judging.specs.Readings.{AreRecord};
+ghost use Rattle.svc_judged.specs.declared.ending.Ending.TheVariants.{ReadFault};
+ghost use Rattle.svc_judged.specs.Judgements.{HasCause, IsRefusal};
+
 use crate::ending::Ending;
 use crate::judgement::judge_record;
 use crate::script::plan_of;
@@ -13,7 +20,11 @@ use svc_judging::{ReadRecord, RecordError, read_record};
 use svc_record::Plan;
 
 /// The record that a source has.
-fn record_of<S: Source>(alloc: Global, source: &mut S) -> Result<ReadRecord, Ending> {
+fn record_of<S: Source>(alloc: Global, source: &mut S) -> Result<ReadRecord, Ending>
+    ensures read { IfOk result (λ read. IfSome (S.left source.old) (λ bytes. AreRecord (lines bytes) (reverse read.entries.items) read.end)) }
+    ensures refused { IfErr result (λ ending. IfSome (S.left source.old) (λ bytes. IsRefusal bytes ending)) }
+    ensures fault { IfErr result (λ ending. ending ≡ ReadFault → Rose (S.faulted source.old) (S.faulted source.new)) }
+{
     let bytes = match read_all(alloc, source) {
         Ok(bytes) => bytes,
         Err(ReadAllError::Fault) => return Err(Ending::ReadFault),
@@ -28,7 +39,10 @@ fn record_of<S: Source>(alloc: Global, source: &mut S) -> Result<ReadRecord, End
 }
 
 /// Judges the record of a source by a plan, and prints the verdict.
-fn judge_source<S: Source>(rt: &HostRuntime, plan: &Plan, source: &mut S) -> Ending {
+fn judge_source<S: Source>(rt: &HostRuntime, plan: &Plan, source: &mut S) -> Ending
+    ensures cause { IfSome (S.left source.old) (λ bytes. HasCause plan.now bytes result) }
+    ensures fault { result ≡ ReadFault → Rose (S.faulted source.old) (S.faulted source.new) }
+{
     let alloc = rt.alloc();
     let read = match record_of(alloc, source) {
         Ok(read) => read,

@@ -1,12 +1,11 @@
 //! What is said of a record, by how it says that its run ended.
 
-ghost use Rattle.std.specs.Prelude.{◌≡◌, ◌≤◌, true, length, IfOk};
-ghost use Rattle.svc_judged.specs.Judgements.{said_of, judgement_of, is_whole};
+ghost use Rattle.std.specs.Prelude.{◌≡◌, true, false, IfOk};
+ghost use Rattle.svc_judged.specs.Judgements.{said_of, judgement_of, judgement_by, is_whole};
 
-use crate::tail::{tail_breach, tail_len};
 use std::alloc::Global;
 use svc_base::NoMemory;
-use svc_judge::{Breach, Rule, Verdict, judge};
+use svc_judge::{Breach, Verdict, judge, judge_closed, judge_stray};
 use svc_judging::RecordEnd;
 use svc_record::{Entry, Plan};
 
@@ -39,65 +38,13 @@ fn of_whole(alloc: Global, plan: &Plan, entries: &[Entry]) -> Result<Judgement, 
     Ok(of_verdict(judge(alloc, plan, entries)?))
 }
 
-/// What is said of a record that is right but for its tail of so many entries, and so many events before it that
-/// weren't taken.
-fn of_tail(entries: &[Entry], count: usize, strays: usize) -> Judgement {
-    match tail_breach(entries, count, strays) {
-        Some(rule) => Judgement::Wrong(Breach {
-            entry: entries.len() as u64,
-            rule,
-        }),
-        None => Judgement::Right,
-    }
-}
-
-/// The least tail below `most` entries before which the record is right.
-fn shorter_tail(
-    alloc: Global,
-    plan: &Plan,
-    entries: &[Entry],
-    most: usize,
-) -> Result<Option<usize>, NoMemory>
-    requires { most ≤ length entries.now }
+/// What the first breach of a record says of a run that ended otherwise than by its shutdown.
+fn of_breach(breach: Option<Breach>) -> Judgement
+    ensures { result ≡ said_of breach false }
 {
-    for count in 0..most {
-        if judge(alloc, plan, &entries[count..])?.breach.is_none() {
-            return Ok(Some(count));
-        }
-    }
-    Ok(None)
-}
-
-/// Of a run that ended otherwise than by its shutdown: what stands before its tail is judged. The tail is all
-/// that the newest entries cut and close, unless the last step closed some of it.
-fn of_closed(alloc: Global, plan: &Plan, entries: &[Entry]) -> Result<Judgement, NoMemory> {
-    let most = tail_len(entries);
-    let before = &entries[most..];
-    let Some(breach) = judge(alloc, plan, before)?.breach else {
-        return Ok(of_tail(entries, most, 0));
-    };
-    if breach.entry < before.len() as u64 {
-        return Ok(Judgement::Wrong(breach));
-    }
-    match shorter_tail(alloc, plan, entries, most)? {
-        Some(count) => Ok(of_tail(entries, count, 0)),
-        None => Ok(Judgement::Wrong(breach)),
-    }
-}
-
-/// Of a run whose last event didn't fit: what stands before that event is judged, and that it doesn't fit.
-fn of_stray(alloc: Global, plan: &Plan, entries: &[Entry]) -> Result<Judgement, NoMemory> {
-    let most = tail_len(entries);
-    let before = &entries[most..];
-    match judge(alloc, plan, before)?.breach {
-        Some(breach) if breach.rule == Rule::Fits && breach.entry == before.len() as u64 => {
-            Ok(of_tail(entries, most, 1))
-        }
-        Some(breach) => Ok(Judgement::Wrong(breach)),
-        None => Ok(Judgement::Wrong(Breach {
-            entry: before.len() as u64,
-            rule: Rule::Fits,
-        })),
+    match breach {
+        Some(breach) => Judgement::Wrong(breach),
+        None => Judgement::Right,
     }
 }
 
@@ -109,10 +56,11 @@ pub(crate) fn judge_record(
     end: RecordEnd,
 ) -> Result<Judgement, NoMemory>
     ensures whole { is_whole end ≡ true → IfOk result (λ judgement. judgement ≡ judgement_of plan.now entries.now) }
+    ensures said { IfOk result (λ judgement. judgement ≡ judgement_by end plan.now entries.now) }
 {
     match end {
         RecordEnd::Open | RecordEnd::Served => of_whole(alloc, plan, entries),
-        RecordEnd::Closed => of_closed(alloc, plan, entries),
-        RecordEnd::Stray => of_stray(alloc, plan, entries),
+        RecordEnd::Closed => Ok(of_breach(judge_closed(alloc, plan, entries)?)),
+        RecordEnd::Stray => Ok(of_breach(judge_stray(alloc, plan, entries)?)),
     }
 }

@@ -6,7 +6,6 @@ mod ending;
 mod judgement;
 mod script;
 mod subject;
-mod tail;
 mod telling;
 
 use crate::asking::judge_words;
