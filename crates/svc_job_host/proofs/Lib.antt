@@ -10,3 +10,7 @@ mod ShutLemmas
 pub mod OwedLemmas
 pub mod EndLemmas
 mod AfterLemmas
+mod NextDueLemmas
+mod TellLemmas
+mod MomentLemmas
+mod ServedLemmas

@@ -46,7 +46,7 @@ due-on : (periods : List ℕ) (q : Record) (m s : ℕ) → has is_shutdown q ≡
     → due_at periods q m s ≡ due_since (period periods s) (start_moment q s) (now q) m
 due-on periods q m s on forward = rw (on, forward) refl
 
-due-off : (periods : List ℕ) (q : Record) (m s : ℕ) → (has is_shutdown q || nat_lt m (now q)) ≡ true → due_at periods q m s ≡ 0
+pub due-off : (periods : List ℕ) (q : Record) (m s : ℕ) → (has is_shutdown q || nat_lt m (now q)) ≡ true → due_at periods q m s ≡ 0
 due-off periods q m s off = rw off refl
 
 row-ran : (periods : List ℕ) (q : Record) (m s : ℕ) → has is_shutdown q ≡ false → nat_lt m (now q) ≡ false

@@ -11,3 +11,7 @@ pub mod JobRunners
 pub mod JobHostData
 pub mod JobMakes
 pub mod JobRuns
+pub mod Tellers
+pub mod JobRecords
+pub mod ServedJobsData
+pub mod ServedJobs

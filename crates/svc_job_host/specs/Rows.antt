@@ -38,6 +38,17 @@ abbrev pub due_in : Option JobRow → ℕ → ℕ → ℕ
 due_in None last m = 0
 due_in (Some row) last m = row_due row last m
 
+-- the job in the row, where there is one, has run
+abbrev pub has_run_in : Option JobRow → Bool
+has_run_in None = false
+has_run_in (Some row) = row.ran
+
+-- one of the first n jobs has due moments
+pub record IsDueAmong (rows : List JobRow) (last n m : ℕ) : Type 0 where
+  pub job : ℕ
+  pub there : job < n
+  pub due : 0 < due_in (slice_get rows job) last m
+
 -- the runs of the first n jobs
 abbrev pub runs_in : List JobRow → ℕ → ℕ → ℕ → List JobRun
 runs_in rows last m n = flat_map (λ s. run_of s (due_in (slice_get rows s) last m) m) (range_with_len 0 n)

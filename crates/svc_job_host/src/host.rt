@@ -66,7 +66,7 @@ fn first_idle(plans: &[JobPlan]) -> Option<usize>
 }
 
 /// Why no host is made of these plans and so many jobs, if there is a cause.
-fn fault_of(plans: &[JobPlan], jobs: usize) -> Option<JobError>
+pub(crate) fn fault_of(plans: &[JobPlan], jobs: usize) -> Option<JobError>
     ensures cause { result ≡ fault_of plans.now jobs }
     ensures periods { result ≡ None → HavePeriods plans.now }
     ensures equal { result ≡ None → length plans.now ≡ jobs }

@@ -9,7 +9,9 @@ mod refusals;
 mod row;
 mod run;
 mod runner;
+mod served;
 mod service;
+mod teller;
 mod timetable;
 mod upcoming;
 
@@ -18,4 +20,6 @@ pub use job::Job;
 pub use plan::{JobPlan, JobRun, RunList};
 pub use refusals::{JobError, JobRefused};
 pub use run::run_jobs;
+pub use served::ServedJobs;
 pub use service::JobService;
+pub use teller::JobTeller;

@@ -1,6 +1,7 @@
 //! What is known of one job.
 
 ghost use Rattle.std.specs.Prelude.{◌≡◌, ◌<◌};
+ghost use Rattle.svc_moments.specs.Least.{IsLeast};
 ghost use Rattle.svc_job_host.specs.Dues.{due_since};
 ghost use Rattle.svc_job_host.specs.Rows.{row_due, ran_row};
 ghost use Rattle.svc_job_host.specs.Timetables.{started_row, told_row};
@@ -32,6 +33,18 @@ fn due_since(every: u64, started: Option<u64>, last: u64, moment: u64) -> u64
 }
 
 impl JobRow {
+    /// The least moment at which it has due moments since the last moment; none where it wasn't started, or
+    /// where that moment is beyond 64 bits.
+    pub(crate) fn next_due(&self, last: u64) -> Option<u64>
+        requires { 0 < self.now.every }
+        ensures { IsLeast (λ t. 0 < row_due self.now last t) result }
+    {
+        let start = self.started?;
+        let passed = last.saturating_sub(start) / self.every;
+        let later = passed.checked_add(1)?.checked_mul(self.every)?;
+        start.checked_add(later)
+    }
+
     /// How many due moments it has since the last moment.
     pub(crate) fn due(&self, last: u64, moment: u64) -> u64
         requires { 0 < self.now.every }

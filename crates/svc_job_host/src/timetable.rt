@@ -6,13 +6,16 @@ ghost use Rattle.svc_record.specs.declared.entry.Entry.TheVariants.{Got};
 ghost use Rattle.svc_record.specs.declared.event.Event.TheVariants as events;
 ghost use Rattle.svc_record.specs.Record.{Record};
 ghost use Rattle.svc_job_host.specs.declared.row.JobRow.{JobRow};
-ghost use Rattle.svc_job_host.specs.Dues.{run_of, due_at};
+ghost use Rattle.svc_job_host.specs.Dues.{run_of, runs_at, due_at};
 ghost use Rattle.svc_job_host.specs.Rows.{ArePaced, AreNewRows, HavePeriods, row_due, ran_row, runs_in, due_in, owing, told_after};
+ghost use Rattle.svc_job_host.specs.ServedJobs.{IsKnownOf};
+ghost use Rattle.svc_job_host.specs.Tellers.{named, TellsMore};
 ghost use Rattle.svc_job_host.specs.Timetables.{IsTimetableOf, periods_of, with_row, started_row, noted, readied};
 
 use crate::job::Job;
 use crate::plan::{JobPlan, JobRun, RunList};
 use crate::row::JobRow;
+use crate::teller::{JobTeller, tell_all};
 use std::alloc::Global;
 use std::marker::Model;
 use svc_base::NoMemory;
@@ -164,6 +167,28 @@ impl Timetable {
         self.runs.reserve(alloc, n)
     }
 
+    /// What is known of each job, by number.
+    pub(crate) fn rows(&self) -> &[JobRow]
+        ensures rows { result.now ≡ self.now.rows }
+        ensures paced { ArePaced self.now.rows }
+    {
+        self.rows.as_slice()
+    }
+
+    /// The last moment that came.
+    pub(crate) fn last(&self) -> u64
+        ensures { result ≡ self.now.last }
+    {
+        self.last
+    }
+
+    /// The shutdown has begun.
+    pub(crate) fn is_shut(&self) -> bool
+        ensures { result ≡ self.now.shut }
+    {
+        self.shut
+    }
+
     /// Nothing runs at the moment: the shutdown has begun, or time goes back.
     fn is_late(&self, moment: u64) -> bool
         ensures { result ≡ (self.now.shut || nat_lt moment self.now.last) }
@@ -187,6 +212,27 @@ impl Timetable {
             return;
         }
         run_all(&mut self.rows, jobs, &mut self.runs, self.last, moment);
+        self.last = moment;
+    }
+
+    /// Time goes on to a moment: each job that is due runs, which is told. The runs aren't kept.
+    pub(crate) fn tell_moment<T: JobTeller>(
+        &mut self,
+        plans: &[JobPlan],
+        moment: u64,
+        teller: &mut T,
+    )
+        requires plans { length plans.now ≡ length self.old.rows }
+        ensures known { (periods : List ℕ) (q : Record) → IsKnownOf periods self.old q → IsKnownOf periods self.new (Got (events.Moment moment) ∷ q) }
+        ensures told { (periods : List ℕ) (q : Record) → IsKnownOf periods self.old q
+            → TellsMore (T.told teller.old) (T.told teller.new) (named plans.now (runs_at periods q moment)) }
+        ensures sized { length self.new.rows ≡ length self.old.rows }
+    {
+        if self.is_late(moment) {
+            self.last = moment;
+            return;
+        }
+        tell_all(&mut self.rows, plans, self.last, moment, teller);
         self.last = moment;
     }
 
@@ -222,7 +268,7 @@ impl Timetable {
     }
 
     /// Notes a start.
-    fn note_start(&mut self, s: usize)
+    pub(crate) fn note_start(&mut self, s: usize)
         ensures { self.new ≡ record self.old { rows = with_row self.old.rows s (λ row. started_row row self.old.last) } }
     {
         if s < self.rows.len() {

@@ -3,3 +3,4 @@ pub mod JobReadings
 pub mod JobServices
 pub mod JobEnds
 pub mod JobPrograms
+pub mod JobFiles

@@ -3,6 +3,7 @@
 #![tactic(auto)]
 
 mod answering;
+mod job_file;
 mod job_line;
 mod plans;
 mod printing;
@@ -14,6 +15,7 @@ mod script_line;
 mod script_text;
 mod services;
 
+pub use job_file::read_job_file;
 pub use program::serve_jobs;
 pub use svc_job_host::{
     Job, JobError, JobHost, JobPlan, JobRefused, JobRun, JobService, RunList, run_jobs,

@@ -18,6 +18,8 @@ pub enum Ending {
     ReadFault,
     /// A file with the rules of a gate was refused.
     Gate,
+    /// A file with jobs was refused.
+    Jobs,
     /// This key asks for what the program doesn't do, or has a value that no server can run with.
     Config(Key),
     /// The log, the pid file, the control address or what watches sockets couldn't be opened.
@@ -49,7 +51,7 @@ impl Ending {
     {
         match self {
             Ending::Words => 2,
-            Ending::Line(_) | Ending::Gate => 3,
+            Ending::Line(_) | Ending::Gate | Ending::Jobs => 3,
             Ending::ReadFault => 5,
             Ending::NoMemory | Ending::Run(Err(RunError::NoMemory)) => 7,
             Ending::Run(Ok(Outcome::Served | Outcome::TestPassed | Outcome::Parent(0))) => 0,
@@ -82,6 +84,7 @@ impl fmt::Display for EndLine {
             Ending::Line(n) => write!(f, "status line {n}"),
             Ending::ReadFault => write!(f, "status read fault"),
             Ending::Gate => write!(f, "status gate"),
+            Ending::Jobs => write!(f, "status jobs"),
             Ending::Config(key) => write!(f, "status config {}", key.name()),
             Ending::HostFault => write!(f, "status host fault"),
             Ending::NoService => write!(f, "status no service"),

@@ -1,4 +1,4 @@
-//! The files that a file's lines name, as the rules of gates. Each is read once, at the start.
+//! The files that a file's lines name: the rules of gates, and jobs. Each is read once, at the start.
 
 ghost use Rattle.std.specs.Prelude.{◌≤◌, length, IfOk};
 

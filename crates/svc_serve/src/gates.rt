@@ -15,7 +15,7 @@ use svc_gate::{Gate, GateError, read_rules};
 use svc_host::GatedFilter;
 use svc_streams::Filters;
 use svc_text::ServiceLine;
-use svc_work::{WorkLine, gate_path};
+use svc_work::{WorkFile, WorkLine, file_path};
 use thiserror::Error;
 
 /// Why bytes say no gate.
@@ -76,7 +76,7 @@ fn gate_at(rt: &HostRuntime, path: &str) -> Result<Gate, Ending> {
 
 /// The gate of the service with this number, if these lines say that it has one.
 fn gate(rt: &HostRuntime, works: &[WorkLine], service: usize) -> Result<Option<Gate>, Ending> {
-    match gate_path(works, service) {
+    match file_path(works, service, WorkFile::Gate) {
         Some(path) => Ok(Some(gate_at(rt, path.as_str())?)),
         None => Ok(None),
     }

@@ -5,6 +5,7 @@
 mod ending;
 mod files;
 mod gates;
+mod jobs;
 mod notices;
 mod pid_file;
 mod reading;

@@ -1,17 +1,23 @@
-//! What a run says besides: its record in a log file, and on standard error what an operator should know.
+//! What a run says besides: its record in a log file, on standard error what an operator should know, and on
+//! standard output the runs of jobs.
 
+use crate::jobs::JobLines;
 use std::fs::File;
 use svc_base::Writing;
 use svc_host::{Log, Recorder};
+use svc_job_host::ServedJobs;
 use svc_record::{Action, Entry, Event, Plan};
 use svc_system::LogState;
 
-/// The log, if there is one, and standard error, where services and addresses stand by their names.
+/// The log, if there is one, the jobs, and standard error, where services and addresses stand by their names.
 #[derive(Drop)]
 pub struct Notices<'a> {
     rt: &'a HostRuntime,
     plan: Plan,
     log: Option<Log<Writing<File>>>,
+    jobs: Vec<ServedJobs>,
+    /// The next moment at which one of them runs, if there is one.
+    due: Option<u64>,
     /// That the log isn't whole was said.
     is_said: bool,
 }
@@ -35,13 +41,29 @@ fn address_of(plan: &Plan, service: u32, number: u32) -> &str {
     }
 }
 
+/// Jobs may be due at another moment after the entry: it is a moment, a start or of a shutdown.
+fn may_change_due(entry: &Entry) -> bool {
+    matches!(
+        entry,
+        Entry::Got(Event::Moment(_))
+            | Entry::Told(Action::Start(_) | Action::Broadcast | Action::Phase(_, _))
+    )
+}
+
 impl<'a> Notices<'a> {
     /// Notices of a run of this plan that hasn't begun.
-    pub(crate) fn new(rt: &'a HostRuntime, plan: Plan, log: Option<Log<Writing<File>>>) -> Self {
+    pub(crate) fn new(
+        rt: &'a HostRuntime,
+        plan: Plan,
+        log: Option<Log<Writing<File>>>,
+        jobs: Vec<ServedJobs>,
+    ) -> Self {
         Notices {
             rt,
             plan,
             log,
+            jobs,
+            due: None,
             is_said: false,
         }
     }
@@ -82,6 +104,17 @@ impl<'a> Notices<'a> {
         }
     }
 
+    /// Shows an entry to the jobs, which run where they are due.
+    fn run_jobs(&mut self, entry: &Entry) {
+        let mut lines = JobLines::new(self.rt);
+        for jobs in self.jobs.iter_mut() {
+            jobs.note(entry, &mut lines);
+        }
+        if may_change_due(entry) {
+            self.due = self.jobs.iter().filter_map(|jobs| jobs.next_due()).min();
+        }
+    }
+
     /// Says once that the log isn't whole.
     fn say_cut(&mut self) {
         if !self.is_said {
@@ -98,10 +131,11 @@ impl<'a> Recorder for Notices<'a> {
         if let Some(log) = &mut self.log {
             log.note(entry);
         }
+        self.run_jobs(entry);
     }
 
     fn due(&self) -> Option<u64> {
-        None
+        self.due
     }
 
     fn settle(&mut self) -> LogState {

@@ -1,11 +1,12 @@
 //! The run.
 
-ghost use Rattle.std.specs.Prelude.{◌≡◌, length, IfOk};
+ghost use Rattle.std.specs.Prelude.{◌≡◌, ◌≤◌, length, IfOk};
 ghost use Rattle.svc_server.specs.Servers.{answers_of, IsSound};
 ghost use Rattle.svc_serve.specs.Files.{IsTaken};
 
 use crate::ending::Ending;
 use crate::gates::filters_of;
+use crate::jobs::jobs_of;
 use crate::notices::Notices;
 use crate::pid_file::{PidFile, PidRefused};
 use crate::reading::{FileText, control_of, pid_path_of, read_text, refused_key};
@@ -17,10 +18,11 @@ use svc_base::{NoMemory, Text, Writing};
 use svc_conf::{Opt, ServerConf};
 use svc_graph::services::ServiceWithDependents;
 use svc_host::{GatedFilter, Log, ServedServer, SystemHost, run_served};
+use svc_job_host::ServedJobs;
 use svc_services::{ScriptService, filtered_script};
 use svc_streams::Filters;
 use svc_system::{ControlAddress, OpenRefused, System};
-use svc_text::{Script, ScriptError};
+use svc_text::{Script, ScriptError, ServiceLine};
 use svc_work::WorkLine;
 
 /// Says what a key asks for that the program doesn't do.
@@ -208,8 +210,8 @@ fn run_with_pid(
     }
 }
 
-/// Runs the server over the system.
-fn run(rt: &HostRuntime, server: ServedServer, outside: Outside) -> Ending
+/// Runs the server over the system, and these jobs beside it.
+fn run(rt: &HostRuntime, server: ServedServer, jobs: Vec<ServedJobs>, outside: Outside) -> Ending
     requires { IsSound server.dependencies (length server.filters) (answers_of ⟦<ScriptService as ServiceWithDependents>⟧ server.services.items) }
 {
     let alloc = rt.alloc();
@@ -217,6 +219,7 @@ fn run(rt: &HostRuntime, server: ServedServer, outside: Outside) -> Ending
         Ok(plan) => plan,
         Err(NoMemory) => {
             drop(server);
+            drop(jobs);
             drop(outside);
             return Ending::NoMemory;
         }
@@ -230,11 +233,13 @@ fn run(rt: &HostRuntime, server: ServedServer, outside: Outside) -> Ending
     match System::open(rt, alloc, &plan, works.as_slice(), control) {
         Ok(system) => {
             drop(works);
-            run_with_pid(rt, server, system, pid_path, Notices::new(rt, plan, log))
+            let notices = Notices::new(rt, plan, log, jobs);
+            run_with_pid(rt, server, system, pid_path, notices)
         }
         Err(refused) => {
             drop(works);
             drop(server);
+            drop(jobs);
             drop(plan);
             drop(pid_path);
             drop(log);
@@ -243,19 +248,42 @@ fn run(rt: &HostRuntime, server: ServedServer, outside: Outside) -> Ending
     }
 }
 
-/// Runs the server of a script, whose services have these filters.
-fn run_filtered(
-    rt: &HostRuntime,
-    script: Script,
+/// What services have of the files that their lines name.
+#[derive(Drop)]
+struct NamedFiles {
     filters: Filters<GatedFilter>,
-    outside: Outside,
-) -> Ending
-    requires taken { IsTaken script }
-    requires filters { length filters ≡ length script.services.items }
+    jobs: Vec<ServedJobs>,
+}
+
+/// What these services have of the files that these lines name.
+fn named_files(
+    rt: &HostRuntime,
+    services: &[ServiceLine],
+    works: &[WorkLine],
+) -> Result<NamedFiles, Ending>
+    requires { length services.now ≤ 1024 }
+    ensures { IfOk result (λ files. length files.filters ≡ length services.now) }
 {
+    let filters = filters_of(rt, services, works)?;
+    match jobs_of(rt, works, services.len() as u32) {
+        Ok(jobs) => Ok(NamedFiles { filters, jobs }),
+        Err(ending) => {
+            drop(filters);
+            Err(ending)
+        }
+    }
+}
+
+/// Runs the server of a script with what its services have of files.
+fn run_with_files(rt: &HostRuntime, script: Script, files: NamedFiles, outside: Outside) -> Ending
+    requires taken { IsTaken script }
+    requires filters { length files.filters ≡ length script.services.items }
+{
+    let NamedFiles { filters, jobs } = files;
     match filtered_script(rt.alloc(), Opt::default(), script, filters) {
-        Ok(server) => run(rt, server, outside),
+        Ok(server) => run(rt, server, jobs, outside),
         Err(refused) => {
+            drop(jobs);
             drop(outside);
             refuse_server(rt, refused)
         }
@@ -266,8 +294,8 @@ fn run_filtered(
 fn run_script(rt: &HostRuntime, script: Script, outside: Outside) -> Ending
     requires { IsTaken script }
 {
-    match filters_of(rt, script.services.as_slice(), outside.works.as_slice()) {
-        Ok(filters) => run_filtered(rt, script, filters, outside),
+    match named_files(rt, script.services.as_slice(), outside.works.as_slice()) {
+        Ok(files) => run_with_files(rt, script, files, outside),
         Err(ending) => {
             drop(script);
             drop(outside);

@@ -29,6 +29,10 @@ pub(crate) struct Service {
     pub stage: Stage,
     /// It says by itself when it is ready.
     notifies: bool,
+    /// Its work may end: it has no endpoints, and isn't the one that bootstraps.
+    may_end: bool,
+    /// It has jobs, whose work ends with the shutdown.
+    has_jobs: bool,
     first: usize,
     count: usize,
     /// So many of its endpoints listen.
@@ -64,12 +68,19 @@ pub(crate) struct Endpoints {
     tasks: u64,
     /// The place of the endpoint whose accept loops end next.
     ending: usize,
+    /// The number of the service whose work ends next.
+    over: u32,
 }
 
 impl Service {
     /// Each of its endpoints listens, and the server wasn't told to give it up.
     pub(crate) fn serves(&self) -> bool {
         self.stage == Stage::Started && self.held >= self.count
+    }
+
+    /// It was started, and does work that ends with the shutdown.
+    fn works(&self) -> bool {
+        self.has_jobs && self.may_end && self.stage == Stage::Started
     }
 
     /// It says by now that it is ready, and hasn't yet.
@@ -112,6 +123,7 @@ impl Endpoints {
             services: Vec::new(alloc),
             tasks,
             ending: 0,
+            over: 0,
         }
     }
 
@@ -128,6 +140,8 @@ impl Endpoints {
         self.services.push(Service {
             stage: Stage::Waiting,
             notifies: plan.kind == Kind::Notifying,
+            may_end: plan.kind != Kind::Bootstrap && plan.endpoints.is_empty(),
+            has_jobs: false,
             first,
             count: self.rows.len().saturating_sub(first),
             held: 0,
@@ -162,6 +176,7 @@ impl Endpoints {
             }
             Work::Ready(ms) => service.ready_after = *ms,
             Work::Echo => service.target = None,
+            Work::Jobs(_) => service.has_jobs = true,
             // Which connections are taken is for the server's filters.
             Work::Gate(_) => {}
         }
@@ -338,8 +353,36 @@ impl Endpoints {
         next
     }
 
-    /// The next accept loop that ends, where all end.
+    /// The next service whose work ends with the shutdown.
+    fn next_over(&mut self) -> Option<Event>
+        ensures { IfSome result (λ e. length (numbers_of (Got e)) ≤ 32) }
+    {
+        for _ in 0..u64::MAX {
+            let number = self.over;
+            let is_over = match self.services.get(number as usize) {
+                Some(service) => service.works(),
+                None => return None,
+            };
+            self.over = number.saturating_add(1);
+            if is_over {
+                return Some(Event::Ended(number));
+            }
+        }
+        None
+    }
+
+    /// The next end where all end: of an accept loop, and then of a service's work.
     pub(crate) fn next_end(&mut self) -> Option<Event>
+        ensures { IfSome result (λ e. length (numbers_of (Got e)) ≤ 32) }
+    {
+        match self.next_loop_end() {
+            Some(event) => Some(event),
+            None => self.next_over(),
+        }
+    }
+
+    /// The next accept loop that ends, where all end.
+    fn next_loop_end(&mut self) -> Option<Event>
         ensures { IfSome result (λ e. length (numbers_of (Got e)) ≤ 32) }
     {
         for _ in 0..u64::MAX {

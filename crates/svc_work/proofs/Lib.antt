@@ -1,4 +1,4 @@
 mod AddressLemmas
 mod ConveyLemmas
 mod PartLemmas
-mod GateLemmas
+mod FileLemmas

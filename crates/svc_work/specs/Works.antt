@@ -5,7 +5,9 @@ use Rattle.std.specs.Str.{bytes_eq, is_utf8}
 use Rattle.svc_base.specs.Options.{◌>>=◌}
 use Rattle.svc_base.specs.Words.{number_of}
 use Rattle.svc_work.specs.declared.works.Work.{Work}
-use Rattle.svc_work.specs.declared.works.Work.TheVariants.{Echo, ForwardTcp, ForwardUnix, Ready, Gate}
+use Rattle.svc_work.specs.declared.works.Work.TheVariants.{Echo, ForwardTcp, ForwardUnix, Ready, Gate, Jobs}
+use Rattle.svc_work.specs.declared.works.WorkFile.{WorkFile}
+use Rattle.svc_work.specs.declared.works.WorkFile.TheVariants as files
 use Rattle.svc_work.specs.declared.works.WorkLine.{WorkLine}
 
 -- the address or path that a word is: a text of 1 to 4,096 bytes
@@ -24,10 +26,16 @@ ready_of value = option_map Ready (number_of (2 ^ 64) value)
 unfoldable pub gate_of : List ℕ → Option Work
 gate_of value = option_map Gate (address_of value)
 
--- `ready MS` or `gate FILE`
+-- `FILE` behind `jobs`
+unfoldable pub jobs_of : List ℕ → Option Work
+jobs_of value = option_map Jobs (address_of value)
+
+-- `ready MS`, `gate FILE` or `jobs FILE`
 unfoldable pub short_work : List ℕ → List ℕ → Option Work
 short_work word value =
-    if bytes_eq word (codes "ready") then ready_of value else (if bytes_eq word (codes "gate") then gate_of value else None)
+    if bytes_eq word (codes "ready") then ready_of value
+    else (if bytes_eq word (codes "gate") then gate_of value
+    else (if bytes_eq word (codes "jobs") then jobs_of value else None))
 
 -- the work of forwarding to this kind of address
 abbrev pub forward_to : List ℕ → List ℕ → Option Work
@@ -58,20 +66,21 @@ unfoldable pub line_of : List (List ℕ) → List (List ℕ) → Option WorkLine
 line_of names [] = None
 line_of names (name ∷ rest) = service_named names name >>= λ s. option_map (λ work. record { service = s; work = work }) (work_of rest)
 
--- the path that a work says for a gate
-abbrev pub gate_in : Work → Option (List ℕ)
-gate_in (Gate path) = Some path
-gate_in _ = None
+-- the path that a work says for such a file
+abbrev pub file_in : WorkFile → Work → Option (List ℕ)
+file_in files.Gate (Gate path) = Some path
+file_in files.Jobs (Jobs path) = Some path
+file_in _ _ = None
 
--- the path that a line says for the gate of this service
-abbrev pub path_in : ℕ → WorkLine → Option (List ℕ)
-path_in service line = if line.service == service then gate_in line.work else None
+-- the path that a line says for such a file of this service
+abbrev pub path_in : WorkFile → ℕ → WorkLine → Option (List ℕ)
+path_in file service line = if line.service == service then file_in file line.work else None
 
--- the path that the last of these lines says for the gate of this service; without one that was found before
-abbrev pub path_after : ℕ → Option (List ℕ) → List WorkLine → Option (List ℕ)
-path_after service found [] = found
-path_after service found (line ∷ more) = path_after service (option_or (path_in service line) found) more
+-- the path that the last of these lines says for such a file of this service; without one that was found before
+abbrev pub path_after : WorkFile → ℕ → Option (List ℕ) → List WorkLine → Option (List ℕ)
+path_after file service found [] = found
+path_after file service found (line ∷ more) = path_after file service (option_or (path_in file service line) found) more
 
 -- the same of all lines
-abbrev pub gate_path : ℕ → List WorkLine → Option (List ℕ)
-gate_path service works = path_after service None works
+abbrev pub file_path : WorkFile → ℕ → List WorkLine → Option (List ℕ)
+file_path file service works = path_after file service None works

@@ -8,4 +8,4 @@ mod works;
 
 pub use conveying::{Conveyance, Conveyed};
 pub use parts::{FileParts, WorksRefused, file_parts, works_of};
-pub use works::{Work, WorkLine, gate_path};
+pub use works::{Work, WorkFile, WorkLine, file_path};

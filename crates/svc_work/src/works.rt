@@ -3,7 +3,7 @@
 ghost use Rattle.std.specs.Prelude.{◌≡◌, IfOk};
 ghost use Rattle.std.specs.Option.{option_map};
 ghost use Rattle.svc_base.specs.Words.{words};
-ghost use Rattle.svc_work.specs.Works.{address_of, bare_work, ready_of, forward_of, long_work, gate_of, short_work, work_of, service_named, line_of, path_in, gate_path};
+ghost use Rattle.svc_work.specs.Works.{address_of, bare_work, ready_of, forward_of, long_work, gate_of, jobs_of, short_work, work_of, service_named, line_of, path_in, file_path};
 
 use std::alloc::Global;
 use std::str;
@@ -22,6 +22,17 @@ pub enum Work {
     Ready(u64),
     /// Connections are taken whose peers the rules in the file at this path allow.
     Gate(Text),
+    /// The jobs in the file at this path run while the service does.
+    Jobs(Text),
+}
+
+/// What is in a file that a line names.
+#[derive(Clone, Copy)]
+pub enum WorkFile {
+    /// The rules of a gate.
+    Gate,
+    /// Jobs.
+    Jobs,
 }
 
 /// What a line says: what the service with this number does.
@@ -79,6 +90,17 @@ fn gate_of(alloc: Global, value: &[u8]) -> Result<Option<Work>, NoMemory>
     }
 }
 
+/// The file with jobs.
+#[tactic(auto, unfolding(crate::specs::Works::jobs_of))]
+fn jobs_of(alloc: Global, value: &[u8]) -> Result<Option<Work>, NoMemory>
+    ensures { IfOk result (λ o. o ≡ jobs_of value.now) }
+{
+    match address_of(alloc, value)? {
+        Some(path) => Ok(Some(Work::Jobs(path))),
+        None => Ok(None),
+    }
+}
+
 /// What two words say.
 #[tactic(auto, unfolding(crate::specs::Works::short_work))]
 fn short_work(alloc: Global, word: &[u8], value: &[u8]) -> Result<Option<Work>, NoMemory>
@@ -89,6 +111,9 @@ fn short_work(alloc: Global, word: &[u8], value: &[u8]) -> Result<Option<Work>, 
     }
     if word == b"gate".as_slice() {
         return gate_of(alloc, value);
+    }
+    if word == b"jobs".as_slice() {
+        return jobs_of(alloc, value);
     }
     Ok(None)
 }
@@ -176,23 +201,27 @@ pub(crate) fn line_of(
     }
 }
 
-/// The path that a line says for the gate of this service.
-fn path_in(line: &WorkLine, service: usize) -> Option<&Text>
-    ensures { option_map (λ path. path.now) result ≡ path_in service line.now }
+/// The path that a line says for such a file of this service.
+fn path_in(line: &WorkLine, service: usize, file: WorkFile) -> Option<&Text>
+    ensures { option_map (λ path. path.now) result ≡ path_in file service line.now }
 {
-    match &line.work {
-        Work::Gate(path) if line.service == service => Some(path),
+    if line.service != service {
+        return None;
+    }
+    match (&line.work, file) {
+        (Work::Gate(path), WorkFile::Gate) => Some(path),
+        (Work::Jobs(path), WorkFile::Jobs) => Some(path),
         _ => None,
     }
 }
 
-/// The path of the rules of a service's gate, if it has one: that of the last line that says one.
-pub fn gate_path(works: &[WorkLine], service: usize) -> Option<&Text>
-    ensures { option_map (λ path. path.now) result ≡ gate_path service works.now }
+/// The path of such a file of a service, if it has one: that of the last line that says one.
+pub fn file_path(works: &[WorkLine], service: usize, file: WorkFile) -> Option<&Text>
+    ensures { option_map (λ path. path.now) result ≡ file_path file service works.now }
 {
     let mut found = None;
     for line in works {
-        if let Some(path) = path_in(line, service) {
+        if let Some(path) = path_in(line, service, file) {
             found = Some(path);
         }
     }
