@@ -13,6 +13,7 @@ pub mod FirstOfLemmas
 pub mod AnewLemmas
 pub mod QuietLemmas
 pub mod StillLemmas
+pub mod CalmLemmas
 pub mod IdleLemmas
 pub mod MemoLemmas
 pub mod NewLemmas

@@ -7,6 +7,7 @@ use Rattle.svc_record.specs.declared.entry.Entry.TheVariants.{Got, Told}
 use Rattle.svc_record.specs.declared.event.Event.TheVariants.{Arrived, Set, Shaken, Finished}
 use Rattle.svc_record.specs.declared.action.Action.TheVariants.{Judged, Refuse, Settings as TellSettings, Handshake, Serve, Drop, Cut}
 use Rattle.svc_record.specs.Record.{Record, has, times, once_if, is_runtimes}
+use Rattle.svc_judge.specs.Calm.{stirs}
 use Rattle.svc_record.specs.Asks.{is_settings, is_handshake, is_settings_open, is_handshake_open}
 use Rattle.svc_record.specs.Connections.{Arrival, arrivals, is_known, has_filter, is_arrival, is_judged, is_judged_as, is_refuse, is_settings_of, settings_list, is_set_as, is_shaken_as, is_serve, is_drop, is_cut, is_live_connection}
 
@@ -38,16 +39,18 @@ is_in_chain n k e = leaves n k (number_at e)
 abbrev pub chain : ℕ → ℕ → Record → Record
 chain n k q = filter (is_in_chain n k) q
 
--- a chain for each number that may be left, and how often `ShutdownRuntimes` was told
+-- a chain for each number that may be left, how often `ShutdownRuntimes` was told, and how many entries stir
 pub record ChainsData : Type 0 where
   pub parts : List Record
   pub ends : ℕ
+  pub stirred : ℕ
 
 -- they are those of the record
 pub record IsChains (chains : ChainsData) (q : Record) : Type 0 where
   pub some : 0 < length chains.parts
   pub each : (k : ℕ) → k < length chains.parts → slice_index_or chains.parts k [] ≡ chain (length chains.parts) k q
   pub ends : chains.ends ≡ times is_runtimes q
+  pub stirred : chains.stirred ≡ times stirs q
 
 -- they are those of what stands in the record after this
 pub record IsBuilt (parts : List Record) (whole rest : Record) : Type 0 where

@@ -13,6 +13,7 @@ pub mod Closing
 pub mod Numbers
 pub mod Verdicts
 pub mod Anew
+pub mod Calm
 pub mod Chains
 pub mod Still
 pub mod Memos

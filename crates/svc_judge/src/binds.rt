@@ -1,9 +1,11 @@
 //! Whether a bind that ended well, and the one of the service's next endpoint, leave all else that is asked of a record.
 
-ghost use Rattle.std.specs.Prelude.{◌≡◌, ◌∷◌};
+ghost use Rattle.std.specs.Prelude.{◌≡◌, ◌∷◌, true};
 ghost use Rattle.std.specs.List.{list_all};
 ghost use Rattle.std.specs.Option.{option_copied};
 ghost use Rattle.svc_record.specs.Plans.{endpoint_numbers};
+ghost use Rattle.svc_record.specs.Record.{times};
+ghost use Rattle.svc_judge.specs.Calm.{stirs};
 ghost use Rattle.svc_judge.specs.Pasts.{IsPast, plan_of, record_of};
 ghost use Rattle.svc_judge.specs.Binds.{is_far, is_alone, names_it, has_own_address, is_free, binds_well, is_next_bound, is_well_bound};
 
@@ -66,31 +68,50 @@ fn is_free(past: &Past, s: u64, i: u64) -> bool
         && (!has_failed(past, s) && !has_live(past, address(past.plan, s, i)))
 }
 
-/// Where the bind of the endpoint ends well, that leaves all else.
-fn binds_well(past: &Past, s: u64, i: u64) -> bool
-    requires { IsPast past.now }
+/// The same, where nothing was broadcast and no service has failed.
+#[tactic(auto, using(crate::proofs::CalmLemmas::calm_free))]
+fn is_calm_free(past: &Past, s: u64, i: u64) -> bool
+    requires past { IsPast past.now }
+    requires calm { times stirs (record_of past.now) ≡ 0 }
+    ensures { result ≡ is_free (plan_of past.now) (record_of past.now) s i }
+{
+    may_begin(past) && !has_live(past, address(past.plan, s, i))
+}
+
+/// Where the bind of the endpoint ends well, that leaves all else; where it is known whether no service could fail.
+fn binds_well(past: &Past, s: u64, i: u64, calm: bool) -> bool
+    requires past { IsPast past.now }
+    requires calm { calm ≡ true → times stirs (record_of past.now) ≡ 0 }
     ensures { result ≡ binds_well (plan_of past.now) (record_of past.now) s i }
 {
-    has_own_address(past.plan, s, i) && is_free(past, s, i)
+    has_own_address(past.plan, s, i)
+        && if calm {
+            is_calm_free(past, s, i)
+        } else {
+            is_free(past, s, i)
+        }
 }
 
 /// The entry is that the bind of the endpoint right before this one ended so.
-fn is_bound_before(entry: &Entry, before: &Past, t: u64, j: u64) -> bool
-    requires { IsPast before.now }
+fn is_bound_before(entry: &Entry, before: &Past, t: u64, j: u64, calm: bool) -> bool
+    requires past { IsPast before.now }
+    requires calm { calm ≡ true → times stirs (record_of before.now) ≡ 0 }
     ensures { result ≡ is_next_bound (plan_of before.now) t j (entry.now ∷ record_of before.now) }
 {
     match entry {
         Entry::Got(Event::Bound(s, i, _)) => {
             (u64::from(*s) == t && u64::from(*i) + 1 == j)
-                && binds_well(before, u64::from(*s), u64::from(*i))
+                && binds_well(before, u64::from(*s), u64::from(*i), calm)
         }
         _ => false,
     }
 }
 
 /// The last entry is.
-fn is_next_bound(past: &Past, t: u64, j: u64) -> bool
-    requires { IsPast past.now }
+#[tactic(auto, using(crate::proofs::CalmLemmas::calm_rest))]
+fn is_next_bound(past: &Past, t: u64, j: u64, calm: bool) -> bool
+    requires past { IsPast past.now }
+    requires calm { calm ≡ true → times stirs (record_of past.now) ≡ 0 }
     ensures { result ≡ is_next_bound (plan_of past.now) t j (record_of past.now) }
 {
     match past.split() {
@@ -100,30 +121,33 @@ fn is_next_bound(past: &Past, t: u64, j: u64) -> bool
                 news: _,
                 before,
             },
-        ) => is_bound_before(entry, &before, t, j),
+        ) => is_bound_before(entry, &before, t, j, calm),
         None => false,
     }
 }
 
 /// The entry is that a bind ended so, or the bind of the service's next endpoint behind that.
-fn is_bound_at(entry: &Entry, before: &Past) -> bool
-    requires { IsPast before.now }
+fn is_bound_at(entry: &Entry, before: &Past, calm: bool) -> bool
+    requires past { IsPast before.now }
+    requires calm { calm ≡ true → times stirs (record_of before.now) ≡ 0 }
     ensures { result ≡ is_well_bound (plan_of before.now) (entry.now ∷ record_of before.now) }
 {
     match entry {
         Entry::Got(Event::Bound(s, i, _)) => {
             u64::from(*i) + 1 == endpoint_count(before.plan, u64::from(*s))
-                && binds_well(before, u64::from(*s), u64::from(*i))
+                && binds_well(before, u64::from(*s), u64::from(*i), calm)
         }
-        Entry::Told(Action::Bind(t, j)) => is_next_bound(before, u64::from(*t), u64::from(*j)),
+        Entry::Told(Action::Bind(t, j)) => is_next_bound(before, u64::from(*t), u64::from(*j), calm),
         _ => false,
     }
 }
 
 /// The last event is that a bind ended so, and since then the bind of the service's next endpoint was told, if there is
 /// one.
-pub(crate) fn is_well_bound(past: &Past) -> bool
-    requires { IsPast past.now }
+#[tactic(auto, using(crate::proofs::CalmLemmas::calm_rest))]
+pub(crate) fn is_well_bound(past: &Past, calm: bool) -> bool
+    requires past { IsPast past.now }
+    requires calm { calm ≡ true → times stirs (record_of past.now) ≡ 0 }
     ensures { result ≡ is_well_bound (plan_of past.now) (record_of past.now) }
 {
     match past.split() {
@@ -133,7 +157,7 @@ pub(crate) fn is_well_bound(past: &Past) -> bool
                 news: _,
                 before,
             },
-        ) => is_bound_at(entry, &before),
+        ) => is_bound_at(entry, &before, calm),
         None => false,
     }
 }

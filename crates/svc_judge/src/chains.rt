@@ -1,9 +1,11 @@
 //! The entries of a record on connections, found by the connections' numbers.
 
-ghost use Rattle.std.specs.Prelude.{ℕ, ◌≡◌, ◌==◌, ◌<◌, ◌%◌, ◌++◌, [], ◌∷◌, drop, length, slice_index_or, IfOk, OnOk};
+ghost use Rattle.std.specs.Prelude.{ℕ, true, ◌≡◌, ◌==◌, ◌<◌, ◌%◌, ◌++◌, [], ◌∷◌, drop, length, slice_index_or, IfOk, OnOk};
 ghost use Rattle.svc_record.specs.Record.{Record, times, is_runtimes};
+ghost use Rattle.svc_judge.specs.Calm.{stirs};
 ghost use Rattle.svc_judge.specs.Chains.{number_at, chain, IsChains, IsBuilt};
 
+use crate::calm::{count_stirred, stirs, without_one};
 use std::alloc::Global;
 use std::marker::Model;
 use svc_base::NoMemory;
@@ -119,11 +121,12 @@ impl Chain {
 }
 
 /// For each number below a bound the entries of those connections whose numbers leave it when divided by the
-/// bound; and how often `ShutdownRuntimes` was told.
+/// bound; how often `ShutdownRuntimes` was told; and how many entries stir.
 #[derive(Drop)]
 pub struct Chains {
     parts: Vec<Chain>,
     ends: u64,
+    stirred: u64,
 }
 
 impl Model for Chains {
@@ -131,7 +134,7 @@ impl Model for Chains {
 
     ghost Value = { ChainsData };
 
-    ghost view = { λ c. record { parts = c.parts.items; ends = c.ends } };
+    ghost view = { λ c. record { parts = c.parts.items; ends = c.ends; stirred = c.stirred } };
 }
 
 /// As many empty chains.
@@ -188,6 +191,7 @@ impl Chains {
         Ok(Chains {
             parts: parts_of(alloc, entries)?,
             ends: count_runtimes(entries),
+            stirred: count_stirred(entries),
         })
     }
 
@@ -207,7 +211,16 @@ impl Chains {
         self.ends == 0
     }
 
+    /// Where it holds, no entry stirs.
+    #[tactic(auto, using(crate::proofs::CalmLemmas::calm_count))]
+    pub(crate) fn is_calm(&self) -> bool
+        ensures { (q : Record) → IsChains self.now q → result ≡ true → times stirs q ≡ 0 }
+    {
+        self.stirred == 0
+    }
+
     /// Takes the newest entry of the record away.
+    #[tactic(auto, using(crate::proofs::CalmLemmas::count_behind))]
     pub(crate) fn take(&mut self, entry: &Entry)
         requires { 0 < length self.old.parts }
         ensures { (q : Record) → IsChains self.old (entry.now ∷ q) → IsChains self.new q }
@@ -215,6 +228,7 @@ impl Chains {
         if is_runtimes(entry) {
             self.ends = self.ends.saturating_sub(1);
         }
+        self.stirred = without_one(self.stirred, stirs(entry));
         if let Some(c) = number_at(entry) {
             let k = place(c, self.parts.len());
             self.parts[k].take_first();

@@ -290,7 +290,7 @@ fn waits(past: &Past, s: u64, i: u64) -> bool
 }
 
 /// The endpoints with numbers below this one are held.
-fn are_held_below(past: &Past, s: u64, count: u64) -> bool
+pub(crate) fn are_held_below(past: &Past, s: u64, count: u64) -> bool
     requires { IsPast past.now }
     ensures { result ≡ list_all (is_held (plan_of past.now) (record_of past.now) s) (range_with_len 0 count) }
 {

@@ -4,6 +4,7 @@ ghost use Rattle.std.specs.Prelude.{◌≡◌, ◌+◌, length, Option, Some, If
 ghost use Rattle.svc_record.specs.Right.{is_served};
 ghost use Rattle.svc_record.specs.Fits.{event_fits};
 ghost use Rattle.svc_record.specs.Ends.{step_end};
+ghost use Rattle.svc_record.specs.AskRules.{ask_due};
 ghost use Rattle.svc_record.specs.Connections.{connection_known};
 ghost use Rattle.svc_judge.specs.Pasts.{IsPast, plan_of, record_of};
 ghost use Rattle.svc_judge.specs.Anew.{connection_breach, boot_kept, conn_kept};
@@ -15,6 +16,7 @@ ghost use Rattle.svc_judge.specs.Verdicts.{at, entry_breach, open_breach_by, set
 use crate::alone::{connection_known, connections_kept};
 use crate::anew::{boot_kept, conn_kept, each_new, only_connections};
 use crate::binds::is_well_bound;
+use crate::calm::ask_due;
 use crate::chains::Chains;
 use crate::closes::closes_right;
 use crate::descriptors::one_live;
@@ -119,11 +121,18 @@ pub struct Verdict {
     pub breach: Option<Breach>,
 }
 
-/// The first rule that the entry breaks, if it breaks one, where it is known whether the event may come, and
-/// whether its connection has arrived.
-fn entry_breach(entry: &Entry, before: &Past, fits: bool, known: bool) -> Option<Rule>
+/// The first rule that the entry breaks, if it breaks one, where it is known whether the event may come, whether an ask
+/// is due, and whether its connection has arrived.
+fn entry_breach(
+    entry: &Entry,
+    before: &Past,
+    fits: bool,
+    due: bool,
+    known: bool,
+) -> Option<Rule>
     requires past { IsPast before.now }
     requires fits { fits ≡ event_fits (plan_of before.now) entry.now (record_of before.now) }
+    requires due { due ≡ ask_due (plan_of before.now) entry.now (record_of before.now) }
     requires known { known ≡ connection_known (plan_of before.now) entry.now (record_of before.now) }
     ensures { result ≡ entry_breach (plan_of before.now) entry.now (record_of before.now) }
 {
@@ -133,7 +142,7 @@ fn entry_breach(entry: &Entry, before: &Past, fits: bool, known: bool) -> Option
     if !EntryRule::StartDue.holds(entry, before) {
         return Some(Rule::StartDue);
     }
-    if !EntryRule::AskDue.holds(entry, before) {
+    if !due {
         return Some(Rule::AskDue);
     }
     if !EntryRule::BootDue.holds(entry, before) {
@@ -320,7 +329,7 @@ fn late_breach(
         Ok(connection_breach(past, chains))
     } else if memo.is_idle(past) {
         Ok(None)
-    } else if is_well_bound(past) {
+    } else if is_well_bound(past, chains.is_calm()) {
         Ok(None)
     } else {
         step_anew(alloc, past, chains)
@@ -336,8 +345,9 @@ fn entry_place(entry: &Entry, before: &Past, chains: &Chains, memo: &mut Memo) -
     ensures memo { IsMemo memo.new (plan_of before.now) (record_of before.now) }
 {
     let fits = memo.event_fits(entry, before, chains);
+    let due = ask_due(entry, before, chains.is_calm());
     let known = connection_known(entry, before, chains);
-    match entry_breach(entry, before, fits, known) {
+    match entry_breach(entry, before, fits, due, known) {
         Some(rule) => Some(Breach {
             entry: before.entries.len() as u64 + 1,
             rule,

@@ -5,6 +5,7 @@ mod alone;
 mod anew;
 mod binds;
 mod boot;
+mod calm;
 mod chains;
 mod closes;
 mod connections;
