@@ -11,7 +11,7 @@ use Rattle.svc_record.specs.Ends.{step_end}
 use Rattle.svc_record.specs.Journal.{PostData, record_after, told_as_said, posts_as_said}
 use Rattle.svc_record.specs.Judging.{judged_at, judgements, TellsJudged}
 use Rattle.svc_core.specs.CoreData.{CoreData}
-use Rattle.svc_core.specs.Stands.{Represents, StepKeeps}
+use Rattle.svc_core.specs.Stands.{Represents, StepKeeps, BeginKeeps}
 use Rattle.svc_core.proofs.JudgedLemmas.{judged-said}
 use Rattle.svc_shared.specs.BookData.{book}
 use Rattle.svc_shared.specs.Journals.{record_of, IsLegal, end_after}
@@ -33,6 +33,23 @@ said-more plan q (x ∷ xs) p all last =
 pub record Stays (core : CoreData) (opening : List Action) (limit : ℕ) (posts : List PostData) : Type 0 where
   pub stands : Represents core (record_of (book core.plan opening limit posts) posts)
   pub legal : IsLegal (book core.plan opening limit posts) posts
+
+-- a book that has begun, without posts
+fresh : (core : CoreData) (opening : List Action) (limit : ℕ) (end : StepEnd) → BeginKeeps core [] opening end → Stays core opening limit []
+fresh core opening limit end keeps =
+    let told : keeps.told ≡ opening = sym keeps.appended in
+    record {
+      stands = subst (λ (w : List Action). Represents core (tell [] w)) told keeps.kept.stands;
+      legal = record {
+        right = subst (λ (w : List Action). Right core.plan (tell [] w)) told keeps.kept.right;
+        said = refl;
+      };
+    }
+
+pub opens : (core : CoreData) (before opening : List Action) (limit : ℕ) (posts : List PostData) (end : StepEnd) → before ≡ [] → posts ≡ []
+    → BeginKeeps core before opening end → Stays core opening limit posts
+opens core before opening limit posts end untold empty keeps =
+    subst (Stays core opening limit) (sym empty) (fresh core opening limit end (subst (λ (b : List Action). BeginKeeps core b opening end) untold keeps))
 
 -- the same, and the answer of its last post
 pub record Grows (core : CoreData) (opening : List Action) (limit : ℕ) (posts : List PostData) (end : StepEnd) : Type 0 where
