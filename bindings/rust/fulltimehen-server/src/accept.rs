@@ -103,7 +103,7 @@ impl Loop {
     ) -> io::Result<Pause> {
         let mut guard = listener.readable().await?;
         // Another program that has the socket may have it block again.
-        _ = listener.get_ref().unblock();
+        _ = listener.get_ref().unblock_if_shared();
         let (mut came, mut pause) = (Vec::new(), Pause::Turn);
         while *left > 0 {
             let Some(seat) = self.room.try_enter() else {

@@ -26,7 +26,6 @@ use fulltimehen::{
 use std::collections::{BTreeMap, HashSet, VecDeque};
 use std::io;
 use std::mem;
-use std::os::fd::AsFd;
 use std::panic::{AssertUnwindSafe, catch_unwind};
 use std::path::PathBuf;
 use std::process;
@@ -630,9 +629,8 @@ impl Driver {
             return self.fail(error);
         }
         self.setup.link = None;
-        let listeners: Vec<_> = self.sockets.values().map(|socket| &socket.listener).collect();
-        let fds: Vec<_> = listeners.iter().map(|listener| listener.get_ref().as_fd()).collect();
-        if let Err(error) = self.setup.shared.manager.store(&fds) {
+        let listeners = self.sockets.values().map(|socket| socket.listener.get_ref());
+        if let Err(error) = self.setup.shared.manager.store(listeners) {
             say!(warn, "the service manager didn't take the sockets: {error}");
         }
         self.setup.shared.notify(&format!("READY=1\nMAINPID={}\nSTATUS=Running", process::id()));

@@ -10,7 +10,6 @@ use crate::takeover::{self, Ended};
 use fulltimehen::{Event, FdId, Signal};
 use nix::time::{ClockId, clock_gettime};
 use std::io;
-use std::os::fd::AsFd;
 use std::path::{Path, PathBuf};
 use std::rc::Rc;
 use std::sync::Arc;
@@ -190,7 +189,7 @@ impl Driver {
         let listeners: Vec<_> = sockets.map(|socket| Arc::clone(&socket.listener)).collect();
         let inputs = self.inputs.clone();
         spawn_local(async move {
-            let fds: Vec<_> = listeners.iter().map(|it| it.get_ref().as_fd()).collect();
+            let fds: Vec<_> = listeners.iter().map(|it| it.get_ref().share()).collect();
             let sent = handover::send(&stream, &bytes, &fds, handover::Frame::ToItsEnd).await;
             inputs.give(Input::Sent(sent));
         });

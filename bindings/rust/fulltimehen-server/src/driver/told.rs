@@ -313,6 +313,7 @@ impl Driver {
             return;
         };
         let listener = Arc::clone(&socket.listener);
+        _ = listener.get_ref().unblock_if_shared();
         let room = self.room.of(self.setup.services[place.service as usize].descriptors());
         let mut came = Vec::new();
         while let Some(seat) = room.try_enter()
