@@ -368,3 +368,25 @@ impl Accepted {
         }
     }
 }
+
+#[cfg(test)]
+mod tests {
+    use super::*;
+    use std::time::Instant;
+
+    #[test]
+    fn a_socket_that_another_program_has_is_seen_to() {
+        let listener = Listener::bind(&Address::tcp("127.0.0.1:0").unwrap()).unwrap();
+        let theirs = listener.share().try_clone_to_owned().unwrap();
+        let copy = Listener::from_outside(theirs.try_clone().unwrap()).unwrap();
+        // One that blocks all the same answers late, and not never.
+        SockRef::from(&theirs).set_read_timeout(Some(Duration::from_secs(20))).unwrap();
+        for listener in [&listener, &copy] {
+            SockRef::from(&theirs).set_nonblocking(false).unwrap();
+            listener.unblock_if_shared().unwrap();
+            let then = Instant::now();
+            assert!(is_would_block(&listener.accept()));
+            assert!(then.elapsed() < Duration::from_secs(10));
+        }
+    }
+}
