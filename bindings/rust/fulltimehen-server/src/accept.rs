@@ -61,7 +61,9 @@ impl Drop for Loop {
 
 /// Why a loop stops accepting for now.
 enum Pause {
-    /// Nobody waits, or it is the others' turn.
+    /// Nobody waits.
+    Empty,
+    /// It is the others' turn.
     Turn,
     /// There is no room for another connection.
     Full,
@@ -78,9 +80,14 @@ impl Loop {
     /// Begins it. It ends where it is aborted, and says so once all that it has accepted was given.
     pub(crate) fn begin(self, listener: Polled, on: &Handle) -> JoinHandle<()> {
         on.spawn(async move {
-            while let Ok(pause) = self.accept_some(&listener).await {
+            let mut left = BURST;
+            while let Ok(pause) = self.accept_some(&listener, &mut left).await {
                 match pause {
-                    Pause::Turn => yield_now().await,
+                    Pause::Empty => {}
+                    Pause::Turn => {
+                        yield_now().await;
+                        left = BURST;
+                    }
                     Pause::Full => drop(self.room.enter().await),
                     Pause::Failed(error) => self.rest(error).await,
                 }
@@ -88,20 +95,30 @@ impl Loop {
         })
     }
 
-    /// Accepts those that wait, once there are some.
-    async fn accept_some(&self, listener: &AsyncFd<Listener>) -> io::Result<Pause> {
+    /// Accepts those that wait, once there are some, and as many as are left of its turn.
+    async fn accept_some(
+        &self,
+        listener: &AsyncFd<Listener>,
+        left: &mut usize,
+    ) -> io::Result<Pause> {
         let mut guard = listener.readable().await?;
         // Another program that has the socket may have it block again.
-        _ = listener.get_ref().unblock();
+        _ = listener.get_ref().unblock_if_shared();
         let (mut came, mut pause) = (Vec::new(), Pause::Turn);
-        for _ in 0..BURST {
+        while *left > 0 {
             let Some(seat) = self.room.try_enter() else {
                 pause = Pause::Full;
                 break;
             };
             match guard.try_io(|listener| listener.get_ref().accept()) {
-                Err(_) => break,
-                Ok(Ok((stream, peer))) => came.extend(self.arrived(Arrival { stream, peer, seat })),
+                Err(_) => {
+                    pause = Pause::Empty;
+                    break;
+                }
+                Ok(Ok((stream, peer))) => {
+                    *left -= 1;
+                    came.extend(self.arrived(Arrival { stream, peer, seat }));
+                }
                 Ok(Err(error)) => {
                     pause = Pause::Failed(error);
                     break;

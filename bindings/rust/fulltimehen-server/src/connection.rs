@@ -130,7 +130,7 @@ impl Idle {
 /// /// Answers each byte, until the server shuts down.
 /// async fn answer(mut connection: Connection) -> io::Result<()> {
 ///     connection.set_idle_timeout(Some(Duration::from_secs(60)));
-///     let mut shutdown = connection.shutdown();
+///     let mut shutdown = connection.shutdown_signal();
 ///     loop {
 ///         let byte = tokio::select! {
 ///             byte = connection.read_u8() => byte?,
@@ -241,9 +241,22 @@ impl Connection {
     }
 
     /// Tells when the server shuts down. A handler that keeps a connection for many asks ends it then, after
-    /// the ask that is under way.
+    /// the ask that is under way. (`shutdown` itself is `AsyncWriteExt`'s: it ends what the connection sends.)
+    ///
+    /// ```
+    /// use fulltimehen_server::{Server, listening};
+    /// use tokio::io::AsyncWriteExt;
+    ///
+    /// let patient = listening("patient", |mut connection| async move {
+    ///     connection.shutdown_signal().begins().await;
+    ///     connection.write_all(b"goodbye\n").await?;
+    ///     connection.shutdown().await
+    /// });
+    /// Server::new(None)?.add_service(patient.tcp("127.0.0.1:8080"));
+    /// # Ok::<(), fulltimehen_server::ServerError>(())
+    /// ```
     #[must_use]
-    pub fn shutdown(&self) -> Shutdown {
+    pub fn shutdown_signal(&self) -> Shutdown {
         self.guard.common.shutdown().clone()
     }
 

@@ -20,12 +20,12 @@ use crate::signals::Signals;
 use crate::succession::{Held, Shared};
 use crate::takeover::{Addresses, Ended};
 use fulltimehen::{
-    Action, Core, CoreError, End, Event, Numbers, OnStray, Phase, Plan, Record, RunningCore, Signal,
+    Action, Core, CoreError, End, Event, FdId, Numbers, OnStray, Phase, Plan, Record, RunningCore,
+    Signal, Verdict,
 };
 use std::collections::{BTreeMap, HashSet, VecDeque};
 use std::io;
 use std::mem;
-use std::os::fd::AsFd;
 use std::panic::{AssertUnwindSafe, catch_unwind};
 use std::path::PathBuf;
 use std::process;
@@ -59,10 +59,8 @@ pub(crate) enum Input {
         error: io::Error,
         answer: oneshot::Sender<Option<Duration>>,
     },
-    Shaken {
-        connection: u64,
-        ok: bool,
-    },
+    /// A handshake is done, or failed: this is its answer.
+    Shaken(u64, Event),
     /// Connections are done with.
     Finished,
     /// What the step of a connection told that isn't about it.
@@ -214,10 +212,10 @@ pub(crate) struct Driver {
     /// The core isn't told the time, so that it goes on serving.
     frozen: bool,
     numbers: Numbers,
-    sockets: BTreeMap<u64, Socket>,
-    loops: BTreeMap<Place, (u64, Vec<JoinHandle<()>>)>,
+    sockets: BTreeMap<FdId, Socket>,
+    loops: BTreeMap<Place, (FdId, Vec<JoinHandle<()>>)>,
     /// Those that were told to end, and haven't ended.
-    ending: BTreeMap<Place, (u64, Vec<JoinHandle<()>>)>,
+    ending: BTreeMap<Place, (FdId, Vec<JoinHandle<()>>)>,
     room: Room,
     finished: Arc<FinishedList>,
     /// Room for what is taken out of that list.
@@ -413,8 +411,10 @@ impl Driver {
         let is_counted = !matches!(
             event,
             Event::Arrived { .. }
-                | Event::Set { .. }
-                | Event::Shaken { .. }
+                | Event::SettingsApplied { .. }
+                | Event::SettingsFailed { .. }
+                | Event::HandshakeDone { .. }
+                | Event::HandshakeFailed { .. }
                 | Event::Finished { .. }
         );
         if is_counted && !self.frozen && self.now() > self.moment {
@@ -443,7 +443,7 @@ impl Driver {
                 let service = &self.setup.services[*service as usize];
                 service.is_filtered().then(|| {
                     let asked = AssertUnwindSafe(|| service.lets_in(peer));
-                    catch_unwind(asked).unwrap_or(false)
+                    Verdict::from(catch_unwind(asked).unwrap_or(false))
                 })
             }
             _ => None,
@@ -498,11 +498,11 @@ impl Driver {
             Input::AcceptFailed { place, error, answer } => {
                 self.accept_failed(place, &error, answer)
             }
-            Input::Shaken { connection, ok } => {
+            Input::Shaken(connection, answer) => {
                 let machine = lock(&self.machine);
                 let known = machine.connections.get(&connection);
                 if matches!(known, Some(Known::Shaking { .. } | Known::Over)) {
-                    self.events.push_back(Event::Shaken { connection, ok });
+                    self.events.push_back(answer);
                 }
             }
             Input::Finished => {}
@@ -562,7 +562,7 @@ impl Driver {
         if panicked {
             say!(error, "{}: its work panicked, and has ended", self.name(service));
         }
-        self.events.push_back(Event::Ended { service });
+        self.events.push_back(Event::WorkEnded { service });
     }
 
     fn name(&self, service: u32) -> &str {
@@ -629,9 +629,8 @@ impl Driver {
             return self.fail(error);
         }
         self.setup.link = None;
-        let listeners: Vec<_> = self.sockets.values().map(|socket| &socket.listener).collect();
-        let fds: Vec<_> = listeners.iter().map(|listener| listener.get_ref().as_fd()).collect();
-        if let Err(error) = self.setup.shared.manager.store(&fds) {
+        let listeners = self.sockets.values().map(|socket| socket.listener.get_ref());
+        if let Err(error) = self.setup.shared.manager.store(listeners) {
             say!(warn, "the service manager didn't take the sockets: {error}");
         }
         self.setup.shared.notify(&format!("READY=1\nMAINPID={}\nSTATUS=Running", process::id()));
@@ -692,12 +691,12 @@ impl Driver {
         for work in self.progress.iter_mut().filter_map(|progress| progress.work.take()) {
             work.abort();
         }
-        let end = core.as_ref().map_or(End::Served, RunningCore::end);
+        let end = core.as_ref().map_or(Some(End::Served), RunningCore::end);
         let drive = self.outcome(end);
         if let Some(mut record) = record.take() {
-            if end != End::Served
+            if end != Some(End::Served)
                 && let Some(mut closed) = core.and_then(|core| core.close(None).ok())
-                && let Ok(told) = closed.last()
+                && let Ok(told) = closed.last_told()
             {
                 record.put(told.record());
             }
@@ -708,13 +707,15 @@ impl Driver {
         drive
     }
 
-    fn outcome(&mut self, end: End) -> Result<Drive, ServerError> {
+    fn outcome(&mut self, end: Option<End>) -> Result<Drive, ServerError> {
         if let Some(error) = self.error.take() {
             return Err(error);
         }
+        let Some(end) = end.filter(|_| !self.stopped) else {
+            return Ok(Drive::Done(Outcome::Stopped));
+        };
         let shared = &self.setup.shared;
         match end {
-            _ if self.stopped => Ok(Drive::Done(Outcome::Stopped)),
             End::Served => {
                 let is_left = self.wanted == Wanted::Handover
                     && shared.succession.is_some()

@@ -45,7 +45,7 @@ impl fmt::Display for Outcome {
 #[non_exhaustive]
 pub enum ServerError {
     /// The file of the configuration can't be read.
-    #[error("the configuration {path} can't be read")]
+    #[error("the configuration {path} can't be read: {source}")]
     ConfigurationFile {
         /// The file.
         path: PathBuf,

@@ -65,7 +65,9 @@ mod takeover;
 pub use connection::{Connection, Shutdown, connect};
 pub use error::{Outcome, ServerError};
 pub use filter::{Cidr, CidrError};
-pub use fulltimehen::{Configuration, OnStray, Peer, Phase, Signal};
+pub use fulltimehen::{
+    Configuration, ConfigurationError, CoreError, OnStray, Peer, Phase, PlanError, Signal,
+};
 pub use opt::Opt;
 pub use relay::relay;
 pub use server::{DependencyError, RunArgs, Server, ServiceHandle};

@@ -11,7 +11,7 @@ use std::os::fd::{AsFd, AsRawFd, BorrowedFd, OwnedFd, RawFd};
 use std::os::unix::fs::{FileTypeExt, PermissionsExt};
 use std::os::unix::net as unix;
 use std::path::{Path, PathBuf};
-use std::sync::atomic::{AtomicU8, Ordering};
+use std::sync::atomic::{AtomicBool, AtomicU8, Ordering};
 use std::time::Duration;
 
 /// How many connections wait to be accepted at most, where the system allows as many.
@@ -55,8 +55,16 @@ pub(crate) struct KeepAlive {
 
 /// A listening socket. It doesn't block.
 #[derive(Debug)]
-pub(crate) enum Listener {
-    Tcp(net::TcpListener, NoDelayCell),
+pub(crate) struct Listener {
+    socket: Listening,
+    no_delay: NoDelayCell,
+    /// Another program has it, too, or had it: that one may have it block.
+    is_shared: AtomicBool,
+}
+
+#[derive(Debug)]
+enum Listening {
+    Tcp(net::TcpListener),
     Unix(unix::UnixListener),
 }
 
@@ -137,10 +145,11 @@ impl Listener {
         };
         socket.listen(BACKLOG)?;
         socket.set_nonblocking(true)?;
-        Ok(match address {
-            Address::Tcp(_) => Listener::Tcp(socket.into(), NoDelayCell::default()),
-            Address::Unix { .. } => Listener::Unix(socket.into()),
-        })
+        let socket = match address {
+            Address::Tcp(_) => Listening::Tcp(socket.into()),
+            Address::Unix { .. } => Listening::Unix(socket.into()),
+        };
+        Ok(Listener { socket, no_delay: NoDelayCell::default(), is_shared: AtomicBool::new(false) })
     }
 
     /// The listening socket of a descriptor that came from outside.
@@ -155,28 +164,49 @@ impl Listener {
         if !socket.is_listener()? || socket.r#type()? != Type::STREAM {
             return refused("it isn't a listening socket");
         }
-        let listener = match socket.domain()? {
-            Domain::IPV4 | Domain::IPV6 => {
-                Listener::Tcp(net::TcpListener::from(fd), NoDelayCell::default())
-            }
-            Domain::UNIX => Listener::Unix(unix::UnixListener::from(fd)),
+        let socket = match socket.domain()? {
+            Domain::IPV4 | Domain::IPV6 => Listening::Tcp(net::TcpListener::from(fd)),
+            Domain::UNIX => Listening::Unix(unix::UnixListener::from(fd)),
             _ => return refused("it is a socket of another family"),
         };
+        let is_shared = AtomicBool::new(true);
+        let listener = Listener { socket, no_delay: NoDelayCell::default(), is_shared };
         listener.unblock()?;
         Ok(listener)
+    }
+
+    /// The socket, for another program.
+    pub(crate) fn share(&self) -> BorrowedFd<'_> {
+        self.is_shared.store(true, Ordering::SeqCst);
+        match &self.socket {
+            Listening::Tcp(listener) => listener.as_fd(),
+            Listening::Unix(listener) => listener.as_fd(),
+        }
+    }
+
+    pub(crate) fn is_tcp(&self) -> bool {
+        matches!(self.socket, Listening::Tcp(_))
+    }
+
+    /// The socket, for its options.
+    fn options(&self) -> SockRef<'_> {
+        match &self.socket {
+            Listening::Tcp(listener) => SockRef::from(listener),
+            Listening::Unix(listener) => SockRef::from(listener),
+        }
     }
 
     /// Whether it listens at this address. A port 0 is any port; and a socket of all addresses of IPv6 that takes IPv4,
     /// too, as service managers make it for a port alone, is one of all addresses of IPv4.
     pub(crate) fn is_at(&self, address: &Address) -> bool {
-        match (self, address) {
-            (Listener::Tcp(listener, _), Address::Tcp(address)) => {
+        match (&self.socket, address) {
+            (Listening::Tcp(listener), Address::Tcp(address)) => {
                 listener.local_addr().is_ok_and(|local| {
                     (local.ip() == address.ip() || self.has_all_of(local, *address))
                         && (address.port() == 0 || local.port() == address.port())
                 })
             }
-            (Listener::Unix(listener), Address::Unix { path, .. }) => {
+            (Listening::Unix(listener), Address::Unix { path, .. }) => {
                 listener.local_addr().is_ok_and(|local| local.as_pathname() == Some(path))
             }
             _ => false,
@@ -187,16 +217,16 @@ impl Listener {
     fn has_all_of(&self, local: SocketAddr, address: SocketAddr) -> bool {
         local.ip() == Ipv6Addr::UNSPECIFIED
             && address.ip() == Ipv4Addr::UNSPECIFIED
-            && SockRef::from(self).only_v6().is_ok_and(|only| !only)
+            && self.options().only_v6().is_ok_and(|only| !only)
     }
 
     /// Its address, for messages.
     pub(crate) fn address(&self) -> String {
-        match self {
-            Listener::Tcp(listener, _) => {
+        match &self.socket {
+            Listening::Tcp(listener) => {
                 listener.local_addr().map_or("?".to_owned(), |address| address.to_string())
             }
-            Listener::Unix(listener) => {
+            Listening::Unix(listener) => {
                 let address = listener.local_addr().ok();
                 let path = address.as_ref().and_then(|address| address.as_pathname());
                 path.map_or("?".to_owned(), |path| path.display().to_string())
@@ -205,24 +235,29 @@ impl Listener {
     }
 
     /// Sees to it that accepting doesn't block: another program that has the socket may have changed that.
-    pub(crate) fn unblock(&self) -> io::Result<()> {
-        match self {
-            Listener::Tcp(listener, _) => listener.set_nonblocking(true),
-            Listener::Unix(listener) => listener.set_nonblocking(true),
+    fn unblock(&self) -> io::Result<()> {
+        match &self.socket {
+            Listening::Tcp(listener) => listener.set_nonblocking(true),
+            Listening::Unix(listener) => listener.set_nonblocking(true),
         }
+    }
+
+    /// The same, where another program has the socket.
+    pub(crate) fn unblock_if_shared(&self) -> io::Result<()> {
+        if self.is_shared.load(Ordering::SeqCst) { self.unblock() } else { Ok(()) }
     }
 
     /// Listens once more, with the backlog of this program, and has connections send without delay and kept alive.
     pub(crate) fn prepare(&self, keep_alive: Option<KeepAlive>) -> io::Result<()> {
         self.unblock()?;
-        let socket = SockRef::from(self);
+        let socket = self.options();
         socket.listen(BACKLOG)?;
-        let Listener::Tcp(_, no_delay) = self else {
+        if !self.is_tcp() {
             return Ok(());
-        };
+        }
         // An accepted connection has what its listener has.
         socket.set_nodelay(true)?;
-        no_delay.set(NoDelay::Later);
+        self.no_delay.set(NoDelay::Later);
         if let Some(times) = keep_alive {
             let keep_alive = TcpKeepalive::new()
                 .with_time(times.idle)
@@ -235,7 +270,7 @@ impl Listener {
 
     /// The file of a Unix socket's path.
     pub(crate) fn file(&self) -> Option<(PathBuf, FileId)> {
-        let Listener::Unix(listener) = self else {
+        let Listening::Unix(listener) = &self.socket else {
             return None;
         };
         let path = listener.local_addr().ok()?.as_pathname()?.to_owned();
@@ -245,21 +280,21 @@ impl Listener {
 
     /// Accepts a connection, without waiting.
     pub(crate) fn accept(&self) -> io::Result<(Accepted, Peer)> {
-        Ok(match self {
-            Listener::Tcp(listener, no_delay) => {
+        Ok(match &self.socket {
+            Listening::Tcp(listener) => {
                 // What is accepted later came later.
-                let before = no_delay.get();
+                let before = self.no_delay.get();
                 let accepted = sys::accept(listener);
                 if before == NoDelay::Later && is_would_block(&accepted) {
                     // None waits any more that came before.
-                    no_delay.set(NoDelay::Yes);
+                    self.no_delay.set(NoDelay::Yes);
                 }
                 let (stream, address) = accepted?;
                 let peer = address.as_socket().ok_or(io::ErrorKind::InvalidData)?;
                 let stream = net::TcpStream::from(stream);
                 (Accepted::Tcp(stream, before), Peer::from(peer))
             }
-            Listener::Unix(listener) => {
+            Listening::Unix(listener) => {
                 let (stream, _) = sys::accept(listener)?;
                 (Accepted::Unix(unix::UnixStream::from(stream)), Peer::Unix)
             }
@@ -267,18 +302,13 @@ impl Listener {
     }
 }
 
-impl AsFd for Listener {
-    fn as_fd(&self) -> BorrowedFd<'_> {
-        match self {
-            Listener::Tcp(listener, _) => listener.as_fd(),
-            Listener::Unix(listener) => listener.as_fd(),
-        }
-    }
-}
-
+/// For a poller. Who passes the socket on calls [`Listener::share`].
 impl AsRawFd for Listener {
     fn as_raw_fd(&self) -> RawFd {
-        self.as_fd().as_raw_fd()
+        match &self.socket {
+            Listening::Tcp(listener) => listener.as_raw_fd(),
+            Listening::Unix(listener) => listener.as_raw_fd(),
+        }
     }
 }
 
@@ -335,6 +365,28 @@ impl Accepted {
         match self {
             Accepted::Tcp(stream, _) => SockRef::from(stream),
             Accepted::Unix(stream) => SockRef::from(stream),
+        }
+    }
+}
+
+#[cfg(test)]
+mod tests {
+    use super::*;
+    use std::time::Instant;
+
+    #[test]
+    fn a_socket_that_another_program_has_is_seen_to() {
+        let listener = Listener::bind(&Address::tcp("127.0.0.1:0").unwrap()).unwrap();
+        let theirs = listener.share().try_clone_to_owned().unwrap();
+        let copy = Listener::from_outside(theirs.try_clone().unwrap()).unwrap();
+        // One that blocks all the same answers late, and not never.
+        SockRef::from(&theirs).set_read_timeout(Some(Duration::from_secs(20))).unwrap();
+        for listener in [&listener, &copy] {
+            SockRef::from(&theirs).set_nonblocking(false).unwrap();
+            listener.unblock_if_shared().unwrap();
+            let then = Instant::now();
+            assert!(is_would_block(&listener.accept()));
+            assert!(then.elapsed() < Duration::from_secs(10));
         }
     }
 }

@@ -8,7 +8,7 @@ use crate::driver::{FinishedList, Input, Inputs};
 use crate::limits::Seat;
 use crate::listener::Accepted;
 use crate::service::Plain;
-use fulltimehen::{Action, CoreError, End, Event, Numbers, Peer, Record, RunningCore, Told};
+use fulltimehen::{Action, CoreError, Event, Numbers, Peer, Record, RunningCore, Told, Verdict};
 use std::collections::HashMap;
 use std::hash::{BuildHasherDefault, Hasher};
 use std::mem;
@@ -96,13 +96,13 @@ impl Machine {
 
     /// The run goes on.
     pub(crate) fn is_on(&self) -> bool {
-        self.core.as_ref().is_some_and(|core| core.end() == End::On)
+        self.core.as_ref().is_some_and(|core| core.end().is_none())
     }
 
     /// What the first step told. It comes behind the actions that are there, and into the record.
     pub(crate) fn begin(&mut self, actions: &mut Vec<Action>) -> Result<(), CoreError> {
         if let Some(core) = &mut self.core {
-            note(core.last()?, &mut self.record, actions);
+            note(core.last_told()?, &mut self.record, actions);
         }
         Ok(())
     }
@@ -112,7 +112,7 @@ impl Machine {
     pub(crate) fn step(
         &mut self,
         event: &Event,
-        word: Option<bool>,
+        word: Option<Verdict>,
         actions: &mut Vec<Action>,
     ) -> Result<(), CoreError> {
         let Some(core) = &mut self.core else {
@@ -221,11 +221,13 @@ impl Direct {
         match action {
             Action::Settings { connection, settings } if connection == own => {
                 let set = |(stream, _): &(Accepted, Seat)| stream.set(&settings, coming.peer);
-                let ok = coming.stream.as_ref().is_some_and(set);
-                Ok(Some(Event::Set { connection, ok }))
+                Ok(Some(match coming.stream.as_ref().is_some_and(set) {
+                    true => Event::SettingsApplied { connection },
+                    false => Event::SettingsFailed { connection },
+                }))
             }
             Action::Handshake { connection } if connection == own => {
-                Ok(Some(Event::Shaken { connection, ok: true }))
+                Ok(Some(Event::HandshakeDone { connection }))
             }
             Action::Serve { connection } if connection == own => {
                 if let Some((stream, seat)) = coming.stream.take() {

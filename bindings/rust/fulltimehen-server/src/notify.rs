@@ -1,9 +1,9 @@
 //! What a service manager is told: the protocol of systemd's `sd_notify`, over a socket that never blocks.
 
 use crate::fds;
+use crate::listener::Listener;
 use std::env;
 use std::io;
-use std::os::fd::BorrowedFd;
 use std::os::linux::net::SocketAddrExt;
 use std::os::unix::net::{SocketAddr, UnixDatagram};
 use std::process;
@@ -60,13 +60,17 @@ impl Manager {
 
     /// Gives it copies of listening sockets, which it passes to the next start of the service, in place of
     /// those that it has.
-    pub(crate) fn store(&self, listeners: &[BorrowedFd<'_>]) -> io::Result<()> {
+    pub(crate) fn store<'a>(
+        &self,
+        listeners: impl Iterator<Item = &'a Listener>,
+    ) -> io::Result<()> {
         let Some(socket) = &self.socket else {
             return Ok(());
         };
         // Those of addresses that were given up would be held open for ever.
         self.tell("FDSTOREREMOVE=1\nFDNAME=fulltimehen")?;
         let state = b"FDSTORE=1\nFDNAME=fulltimehen";
+        let listeners: Vec<_> = listeners.map(Listener::share).collect();
         listeners.chunks(fds::MOST_FDS).try_for_each(|fds| fds::send(socket, state, fds).map(drop))
     }
 }

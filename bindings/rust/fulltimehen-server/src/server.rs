@@ -240,7 +240,10 @@ impl RunArgs {
 /// `grace_period_seconds` (300 where the configuration doesn't say it), or as long as some are. SIGINT ends it at
 /// once. SIGQUIT has the next program take over ([`Succession`]).
 pub struct Server {
-    /// The settings.
+    /// The settings. The server acts on `threads`, `listener_tasks_per_fd`, `max_blocking_threads`,
+    /// `blocking_threads_ttl_seconds`, `grace_period_seconds`, and, for upgrades, `pid_file`, `upgrade_sock` and
+    /// `upgrade_sock_connect_accept_max_retries`. [`Server::new`] refuses what a service manager does better. The other
+    /// keys are taken, as pingora's are, and change nothing that it does.
     pub configuration: Configuration,
     opt: Opt,
     name: String,
@@ -281,7 +284,8 @@ fn configuration(text: &str) -> Result<Configuration, ServerError> {
 }
 
 impl Server {
-    /// A server without services, with the settings of the file that `-c` names.
+    /// A server without services, with the settings of the file that `-c` names. Where there is no file, or it doesn't say
+    /// `threads`, they are as many as processors.
     ///
     /// # Errors
     ///
@@ -297,7 +301,8 @@ impl Server {
         Server::new_with_opt_and_conf(opt, configuration(&text)?)
     }
 
-    /// A server without services, with these settings. A file that `-c` names isn't read.
+    /// A server without services, with these settings: `Configuration::default` has one thread. A file that `-c` names
+    /// isn't read.
     ///
     /// The first server of a process takes the listening sockets that a service manager passed (`LISTEN_FDS`), and
     /// takes that out of the environment. Where the process has threads already it leaves both, and says so when it

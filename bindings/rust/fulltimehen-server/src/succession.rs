@@ -23,7 +23,7 @@ use std::ffi::OsString;
 use std::fmt;
 use std::fs;
 use std::io;
-use std::os::fd::{AsFd, BorrowedFd};
+use std::os::fd::BorrowedFd;
 use std::os::unix::fs::{DirBuilderExt, MetadataExt};
 use std::path::{Path, PathBuf};
 use std::process::{self, Child, Command, Stdio};
@@ -249,7 +249,7 @@ fn table(held: &[Held]) -> (Vec<&str>, Vec<BorrowedFd<'_>>) {
     let mut held: Vec<&Held> = held.iter().collect();
     held.sort_by_key(|held| held.word.as_bytes());
     held.dedup_by_key(|held| held.word.as_str());
-    held.iter().map(|held| (held.word.as_str(), held.listener.get_ref().as_fd())).unzip()
+    held.iter().map(|held| (held.word.as_str(), held.listener.get_ref().share())).unzip()
 }
 
 impl Shared {

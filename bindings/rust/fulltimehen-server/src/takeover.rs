@@ -95,9 +95,9 @@ fn own_word(word: &str, listener: &Listener, addresses: &Addresses) -> String {
 /// Whether the socket listens at the address of its word, as far as that can be told.
 fn is_right(word: &str, listener: &Listener, addresses: &Addresses) -> bool {
     let own = addresses.values().find(|(own, _)| own == word).map(|(_, address)| address.clone());
-    let address = own.or_else(|| match listener {
-        Listener::Tcp(..) => word.parse().map(Address::Tcp).ok(),
-        Listener::Unix(_) => Some(Address::Unix { path: word.into(), mode: 0 }),
+    let address = own.or_else(|| match listener.is_tcp() {
+        true => word.parse().map(Address::Tcp).ok(),
+        false => Some(Address::Unix { path: word.into(), mode: 0 }),
     });
     address.is_some_and(|address| listener.is_at(&address))
 }

@@ -352,7 +352,7 @@ fn a_drain_waits_for_connections_and_no_longer() {
     let running = start(60, move |server| {
         let patient = listening("patient", |mut connection: Connection| async move {
             connection.write_all(b"here").await?;
-            connection.shutdown().begins().await;
+            connection.shutdown_signal().begins().await;
             tokio::time::sleep(Duration::from_millis(300)).await;
             connection.write_all(b", and bye").await
         });

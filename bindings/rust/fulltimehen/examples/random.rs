@@ -4,7 +4,7 @@
 //!
 //! Services, endpoints and events are drawn; of the events mostly those that fit.
 
-use fulltimehen::{Core, End, Event, Plan, RunningCore, Side, Signal};
+use fulltimehen::{Core, Event, FdId, Plan, RunningCore, Side, Signal};
 use std::fmt::Write;
 
 /// Numbers that look random (xorshift).
@@ -147,15 +147,15 @@ fn event(draw: &mut Draw, services: u64, next: u64, moment: u64) -> Event {
     match draw.below(31) {
         0 | 1 => Event::Moment { ms: moment + draw.below(2500) },
         2 => Event::Ready { service },
-        3 => Event::Ended { service },
-        4..=7 => Event::Bound { service, endpoint, fd: next },
-        8 => Event::InUse { service, endpoint },
+        3 => Event::WorkEnded { service },
+        4..=7 => Event::Bound { service, endpoint, fd: FdId(next) },
+        8 => Event::AddrInUse { service, endpoint },
         9 => Event::BindFailed { service, endpoint },
         10 | 11 => Event::Adopted { service, endpoint },
         12 => Event::AdoptFailed { service, endpoint },
         13 => Event::Received {
             bytes: ADDRESSES[..2].join(" ").into_bytes(),
-            fds: vec![next, next + 1],
+            fds: vec![FdId(next), FdId(next + 1)],
         },
         14 => Event::NoSender,
         15 if draw.one_in(4) => Event::ReceiveFailed,
@@ -163,7 +163,7 @@ fn event(draw: &mut Draw, services: u64, next: u64, moment: u64) -> Event {
             kind: [Signal::Fast, Signal::Terminate, Signal::Upgrade][draw.below(3) as usize],
         },
         17 => Event::Connected,
-        18 => [Event::NotThere, Event::Connecting, Event::ConnectFailed][draw.below(3) as usize]
+        18 => [Event::NoSuccessor, Event::Connecting, Event::ConnectFailed][draw.below(3) as usize]
             .clone(),
         19 => [Event::Sent, Event::SendBusy, Event::SendFailed][draw.below(3) as usize].clone(),
         20..=23 => Event::Arrived {
@@ -175,8 +175,10 @@ fn event(draw: &mut Draw, services: u64, next: u64, moment: u64) -> Event {
                 .expect("a peer"),
         },
         24 => Event::AcceptFailed { service, endpoint, error: if ok { 24 } else { 11 } },
-        25 | 26 => Event::Set { connection, ok },
-        27 => Event::Shaken { connection, ok },
+        25 | 26 if ok => Event::SettingsApplied { connection },
+        25 | 26 => Event::SettingsFailed { connection },
+        27 if ok => Event::HandshakeDone { connection },
+        27 => Event::HandshakeFailed { connection },
         28 => Event::Finished { connection },
         29 => Event::LoopEnded { service, endpoint, number: draw.below(2) },
         _ if draw.one_in(2) => Event::Side { side: if ok { Side::Child } else { Side::Parent } },
@@ -203,7 +205,7 @@ pub fn fitting(
     moment: u64,
 ) -> Option<Event> {
     let mut drawn = (0..200).map(|_| event(draw, services, next, moment));
-    drawn.find(|event| core.asks(event).is_ok())
+    drawn.find(|event| core.check(event).is_ok())
 }
 
 fn main() {
@@ -220,7 +222,7 @@ fn main() {
     };
     let (mut next, mut moment) = (3, 0);
     for _ in 0..20 + draw.below(150) {
-        if core.end() != End::On {
+        if core.end().is_some() {
             return;
         }
         let Some(event) = fitting(&mut draw, &mut core, services, next, moment) else {

@@ -1,7 +1,7 @@
 //! Times steps through the library: a line for each round, with what was measured, the steps and the nanoseconds.
 //! `bench/steps` holds it against the same steps inside Rattle.
 
-use fulltimehen::{Core, Event, Peer, Plan, Service};
+use fulltimehen::{Core, Event, FdId, Peer, Plan, Service};
 use std::time::Instant;
 
 const CONNECTIONS: u64 = 50_000;
@@ -12,7 +12,7 @@ fn main() -> Result<(), Box<dyn std::error::Error>> {
     let plan = Plan::new().service(Service::plain("web").tcp("127.0.0.1:80"));
     for _ in 0..ROUNDS {
         let mut core = Core::new(&plan)?.begin()?;
-        core.step(&Event::Bound { service: 0, endpoint: 0, fd: 3 })?;
+        core.step(&Event::Bound { service: 0, endpoint: 0, fd: FdId(3) })?;
         let mut told = 0;
 
         let then = Instant::now();
@@ -27,8 +27,8 @@ fn main() -> Result<(), Box<dyn std::error::Error>> {
                 Event::Arrived { service: 0, endpoint: 0, connection, peer: Peer::Unknown };
             for event in [
                 arrived,
-                Event::Set { connection, ok: true },
-                Event::Shaken { connection, ok: true },
+                Event::SettingsApplied { connection },
+                Event::HandshakeDone { connection },
                 Event::Finished { connection },
             ] {
                 told += core.step(&event)?.actions().count();

@@ -1,5 +1,7 @@
 //! Actions: what the core tells a program.
 
+use crate::event::Verdict;
+use crate::numbers::FdId;
 use crate::words::{Hex, Joined, LineError, Words};
 use std::fmt;
 use std::str::FromStr;
@@ -20,7 +22,7 @@ pub enum Action {
         /// The service.
         service: u32,
     },
-    /// Bind the endpoint's address: `Bound`, `InUse` or `BindFailed` answers.
+    /// Bind the endpoint's address: `Bound`, `AddrInUse` or `BindFailed` answers.
     Bind {
         /// The service.
         service: u32,
@@ -34,12 +36,12 @@ pub enum Action {
         /// The endpoint of the service.
         endpoint: u32,
         /// The descriptor.
-        fd: u64,
+        fd: FdId,
     },
     /// Close the descriptor.
     Close {
         /// The descriptor.
-        fd: u64,
+        fd: FdId,
     },
     /// Remove an old path, and make the receiving socket at `upgrade_sock`.
     OpenReceiver,
@@ -49,37 +51,37 @@ pub enum Action {
     Daemonize,
     /// Tell the waiting parent that its child is ready.
     NotifyParent,
-    /// Connect to `upgrade_sock` once: `Connected`, `NotThere`, `Connecting` or `ConnectFailed` answers.
+    /// Connect to `upgrade_sock` once: `Connected`, `NoSuccessor`, `Connecting` or `ConnectFailed` answers.
     Connect,
     /// Send these bytes with these descriptors once: `Sent`, `SendBusy` or `SendFailed` answers.
     Send {
         /// The bytes, as `FORMATS.md` has them under "The handover message".
         bytes: Vec<u8>,
         /// The descriptors, at most 32.
-        fds: Vec<u64>,
+        fds: Vec<FdId>,
     },
-    /// Tell the services that the server shuts down: `LoopEnded` and `Ended` follow.
+    /// Tell the services that the server shuts down: `LoopEnded` and `WorkEnded` follow.
     Broadcast,
     /// What the endpoint's filter answered. There is nothing to do.
     Judged {
         /// The connection.
         connection: u64,
-        /// Its peer is accepted.
-        yes: bool,
+        /// Whether its peer is let in.
+        verdict: Verdict,
     },
-    /// Drop the connection, whose peer is blocked.
+    /// Drop the connection, whose peer isn't let in.
     Refuse {
         /// The connection.
         connection: u64,
     },
-    /// Apply these settings in order, up to the first that fails: `Set` answers.
+    /// Apply these settings in order, up to the first that fails: `SettingsApplied` or `SettingsFailed` answers.
     Settings {
         /// The connection.
         connection: u64,
         /// The settings.
         settings: Vec<Setting>,
     },
-    /// Poll the handshake, for at most 60 seconds: `Shaken` answers.
+    /// Poll the handshake, for at most 60 seconds: `HandshakeDone` or `HandshakeFailed` answers.
     Handshake {
         /// The connection.
         connection: u64,
@@ -127,7 +129,7 @@ pub enum Action {
 ///
 /// let mut core = Core::new(&Plan::new())?.begin()?;
 /// let serves = |action| matches!(action, Action::Phase { phase: Phase::Running, .. });
-/// assert!(core.last()?.actions().any(serves));
+/// assert!(core.last_told()?.actions().any(serves));
 /// # Ok::<(), Box<dyn std::error::Error>>(())
 /// ```
 #[derive(Clone, Copy, Debug, PartialEq, Eq, Hash)]
@@ -282,8 +284,11 @@ impl fmt::Display for Action {
             Action::Connect => f.write_str("connect"),
             Action::Send { bytes, fds } => write!(f, "send {} {}", Hex(bytes), Joined(fds)),
             Action::Broadcast => f.write_str("broadcast"),
-            Action::Judged { connection, yes } => {
-                write!(f, "judged {connection} {}", if *yes { "yes" } else { "no" })
+            Action::Judged { connection, verdict: Verdict::Accept } => {
+                write!(f, "judged {connection} yes")
+            }
+            Action::Judged { connection, verdict: Verdict::Refuse } => {
+                write!(f, "judged {connection} no")
             }
             Action::Refuse { connection } => write!(f, "refuse {connection}"),
             Action::Settings { connection, settings } => {
@@ -347,7 +352,7 @@ fn action_of(words: &mut Words<'_>) -> Result<Action, LineError> {
         "daemonize" => Action::Daemonize,
         "notifyparent" => Action::NotifyParent,
         "connect" => Action::Connect,
-        "send" => Action::Send { bytes: words.bytes()?, fds: words.numbers()? },
+        "send" => Action::Send { bytes: words.bytes()?, fds: words.fds()? },
         "broadcast" => Action::Broadcast,
         "phase" => {
             let name = words.word()?;
@@ -361,7 +366,10 @@ fn action_of(words: &mut Words<'_>) -> Result<Action, LineError> {
 
 fn connection_action(key: &str, words: &mut Words<'_>) -> Result<Action, LineError> {
     Ok(match key {
-        "judged" => Action::Judged { connection: words.number()?, yes: words.either("yes", "no")? },
+        "judged" => Action::Judged {
+            connection: words.number()?,
+            verdict: words.either("yes", "no")?.into(),
+        },
         "refuse" => Action::Refuse { connection: words.number()? },
         "settings" => Action::Settings { connection: words.number()?, settings: words.rest()? },
         "handshake" => Action::Handshake { connection: words.number()? },

@@ -1,5 +1,6 @@
 //! What the lines of a record say of which descriptors are open.
 
+use crate::numbers::FdId;
 use std::collections::TryReserveError;
 
 /// How many descriptors an event brings at most.
@@ -28,12 +29,13 @@ impl<'a> Iterator for Lines<'a> {
 #[derive(Debug, Default)]
 pub(crate) struct Book {
     /// The descriptors that events brought and that weren't told to be closed.
-    open: Vec<u64>,
+    open: Vec<FdId>,
 }
 
-/// The number that a word of a record is.
-fn number(digits: &[u8]) -> u64 {
-    digits.iter().fold(0, |n: u64, digit| n.wrapping_mul(10).wrapping_add(u64::from(digit & 15)))
+/// The descriptor whose number a word of a record is.
+fn fd_of(digits: &[u8]) -> FdId {
+    let with = |n: u64, digit: &u8| n.wrapping_mul(10).wrapping_add(u64::from(digit & 15));
+    FdId(digits.iter().fold(0, with))
 }
 
 impl Book {
@@ -50,20 +52,20 @@ impl Book {
                 continue;
             }
             if let Some(words) = line.strip_prefix(b"close ") {
-                let fd = number(words);
+                let fd = fd_of(words);
                 self.open.retain(|open| *open != fd);
             } else if let Some(words) = line.strip_prefix(b"got bound ") {
-                self.open.extend(words.split(|byte| *byte == b' ').nth(2).map(number));
+                self.open.extend(words.split(|byte| *byte == b' ').nth(2).map(fd_of));
             } else if let Some(words) = line.strip_prefix(b"got received ") {
                 let fds = words.split(|byte| *byte == b' ').nth(1).filter(|word| *word != b"-");
                 let fds = fds.into_iter().flat_map(|word| word.split(|byte| *byte == b','));
-                self.open.extend(fds.map(number));
+                self.open.extend(fds.map(fd_of));
             }
         }
     }
 
     /// The descriptor is one that an event brought, and it wasn't told to be closed.
-    pub(crate) fn is_open(&self, fd: u64) -> bool {
+    pub(crate) fn is_open(&self, fd: FdId) -> bool {
         self.open.contains(&fd)
     }
 }
@@ -85,7 +87,7 @@ mod tests {
             ("got ready 0\nclose 7\nclose 8\nclose 10\n", &[]),
         ] {
             book.enter(lines);
-            let is_open: Vec<u64> = (0..20).filter(|fd| book.is_open(*fd)).collect();
+            let is_open: Vec<u64> = (0..20).filter(|fd| book.is_open(FdId(*fd))).collect();
             assert_eq!(is_open, open, "{lines}");
         }
     }

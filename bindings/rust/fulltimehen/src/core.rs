@@ -2,9 +2,10 @@
 
 use crate::action::Action;
 use crate::book::{Book, Lines};
-use crate::event::{Event, Peer};
+use crate::event::{Event, Peer, Verdict};
 use crate::line::Line;
 use crate::messages::{Shown, fits_where};
+use crate::numbers::FdId;
 use crate::plan::{Plan, PlanError};
 use crate::sys::Session;
 use crate::words::LineError;
@@ -39,7 +40,7 @@ pub struct RunningCore {
     session: Session,
     record: RecordBuffer,
     line: Line,
-    end: End,
+    end: Option<End>,
     /// The plan blocks some address, so that its word on a peer has to be asked.
     judges: bool,
     book: Book,
@@ -49,15 +50,13 @@ pub struct RunningCore {
 pub struct ClosedCore {
     session: Session,
     record: RecordBuffer,
-    end: End,
+    end: Option<End>,
 }
 
-/// How far a run is, or how it has ended.
+/// How a run has ended.
 #[derive(Clone, Copy, Debug, PartialEq, Eq)]
 #[non_exhaustive]
 pub enum End {
-    /// It goes on.
-    On,
     /// It went through its shutdown.
     Served,
     /// It tested that it can start.
@@ -73,27 +72,25 @@ pub enum End {
     BadMessage,
 }
 
-impl End {
-    fn of(number: u32) -> Option<End> {
-        Some(match number {
-            0 => End::On,
-            1 => End::Served,
-            2 => End::Tested,
-            3 => End::Parent(0),
-            4 => End::Parent(1),
-            5 => End::Transfer,
-            6 => End::NoSender,
-            7 => End::BadMessage,
-            _ => return None,
-        })
-    }
+/// What the number says that a call answered: how the run has ended, if it has. The number of a refusal is the error.
+fn taken(number: u32) -> Result<Option<End>, u32> {
+    Ok(Some(match number {
+        0 => return Ok(None),
+        1 => End::Served,
+        2 => End::Tested,
+        3 => End::Parent(0),
+        4 => End::Parent(1),
+        5 => End::Transfer,
+        6 => End::NoSender,
+        7 => End::BadMessage,
+        refusal => return Err(refusal),
+    }))
 }
 
 /// As the status line of `svc run` has it.
 impl fmt::Display for End {
     fn fmt(&self, f: &mut fmt::Formatter<'_>) -> fmt::Result {
         match self {
-            End::On => f.write_str("on"),
             End::Served => f.write_str("served"),
             End::Tested => f.write_str("tested"),
             End::Parent(status) => write!(f, "parent {status}"),
@@ -114,11 +111,11 @@ pub enum CoreError {
     NoEvent(Event),
     /// The event doesn't fit: nothing that was told asks for it.
     Stray(Event),
-    /// The call was taken, and there was no memory for the lines of what it told. [`RunningCore::last`] and
-    /// [`ClosedCore::last`] give them once there is.
+    /// The call was taken, and there was no memory for the lines of what it told. [`RunningCore::last_told`] and
+    /// [`ClosedCore::last_told`] give them once there is.
     Untold,
     /// What the call before told wasn't given yet for want of memory, so that its actions would be lost:
-    /// [`RunningCore::last`] gives it once there is some, and then this call may come again.
+    /// [`RunningCore::last_told`] gives it once there is some, and then this call may come again.
     Behind,
 }
 
@@ -148,7 +145,7 @@ impl std::error::Error for CoreError {}
 ///
 /// fn begin(plan: &Plan) -> Result<(), Box<dyn std::error::Error + Send + Sync>> {
 ///     let mut core = Core::new(plan)?.begin().map_err(CoreError::from)?;
-///     assert!(core.last()?.record().ends_with("phase Running 0\n"));
+///     assert!(core.last_told()?.record().ends_with("phase Running 0\n"));
 ///     Ok(())
 /// }
 /// begin(&Plan::new()).expect("there is memory");
@@ -175,42 +172,45 @@ impl<C> fmt::Display for Refused<C> {
 
 impl<C: fmt::Debug> std::error::Error for Refused<C> {}
 
-/// What is asked at an event that fits.
+/// What a core answers of an event that fits: whether it is to be judged, and the plan's word.
 ///
 /// ```
-/// use fulltimehen::{Asked, Core, Event, Peer, Plan, Service};
+/// use fulltimehen::{Checked, Core, Event, FdId, Peer, Plan, Service, Verdict};
 ///
 /// let web = Service::plain("web").tcp("127.0.0.1:80").block("10.0.0.1".parse()?);
 /// let mut core = Core::new(&Plan::new().service(web))?.begin()?;
-/// core.step(&Event::Bound { service: 0, endpoint: 0, fd: 3 })?;
+/// core.step(&Event::Bound { service: 0, endpoint: 0, fd: FdId(3) })?;
 /// let peer: Peer = "10.0.0.1:5000".parse()?;
 /// let event = Event::Arrived { service: 0, endpoint: 0, connection: 1, peer };
-/// let Asked { filter, said, .. } = core.asks(&event)?;
-/// assert_eq!((filter, said), (Some(0), false));
+/// let Checked { filter, verdict, .. } = core.check(&event)?;
+/// assert_eq!((filter, verdict), (Some(0), Verdict::Refuse));
 /// // It comes in all the same, by the caller's own word.
-/// assert!(core.step_judged(&event, true)?.record().contains("judged 1 yes"));
+/// let told = core.step_judged(&event, Verdict::Accept)?;
+/// assert!(told.record().contains("judged 1 yes"));
 /// # Ok::<(), Box<dyn std::error::Error>>(())
 /// ```
 #[derive(Clone, Copy, Debug, PartialEq, Eq)]
 #[non_exhaustive]
-pub struct Asked {
-    /// The number of the filter. Services that block addresses have one each, numbered in their order.
+pub struct Checked {
+    /// The number of the filter that judges the peer. Services that block addresses have one each, numbered in
+    /// their order. None where no peer is judged.
     pub filter: Option<u32>,
-    /// What the plan's blocked addresses say of the peer: `false` of one that is blocked.
-    pub said: bool,
+    /// What the plan's blocked addresses say of the peer: that one which is blocked is refused. Where no peer is
+    /// judged, it is accepted.
+    pub verdict: Verdict,
 }
 
 /// What a call told, and how far the run is.
 #[derive(Clone, Copy, Debug)]
 pub struct Told<'a> {
-    end: End,
+    end: Option<End>,
     record: &'a str,
 }
 
 impl<'a> Told<'a> {
-    /// How far the run is.
+    /// How the run has ended, if it has.
     #[must_use]
-    pub fn end(&self) -> End {
+    pub fn end(&self) -> Option<End> {
         self.end
     }
 
@@ -241,7 +241,7 @@ impl<'a> Told<'a> {
     /// use fulltimehen::{Action, Core, Plan, Service};
     ///
     /// let mut core = Core::new(&Plan::new().service(Service::plain("web")))?.begin()?;
-    /// assert_eq!(core.last()?.try_actions().next(), Some(Ok(Action::Start { service: 0 })));
+    /// assert_eq!(core.last_told()?.try_actions().next(), Some(Ok(Action::Start { service: 0 })));
     /// # Ok::<(), Box<dyn std::error::Error>>(())
     /// ```
     pub fn try_actions(&self) -> impl Iterator<Item = Result<Action, CoreError>> + use<'a> {
@@ -268,10 +268,10 @@ fn set(line: &mut Line, event: &Event) -> Result<(), CoreError> {
         } => line
             .put("arrived", &[u64::from(*service), u64::from(*endpoint), *connection])
             .and_then(|()| line.put_address(*peer)),
-        Event::Set { connection, ok: true } => {
+        Event::SettingsApplied { connection } => {
             line.put("set", &[*connection]).and_then(|()| line.write_str(" ok"))
         }
-        Event::Shaken { connection, ok: true } => {
+        Event::HandshakeDone { connection } => {
             line.put("shaken", &[*connection]).and_then(|()| line.write_str(" ok"))
         }
         Event::Finished { connection } => line.put("finished", &[*connection]),
@@ -335,13 +335,13 @@ impl Core {
         Ok(Core { session, judges: plan.judges() })
     }
 
-    /// The first step. What it told is [`RunningCore::last`].
+    /// The first step. What it told is [`RunningCore::last_told`].
     ///
     /// # Errors
     ///
     /// [`CoreError::NoMemory`], with the core as it was.
     pub fn begin(mut self) -> Result<RunningCore, Refused<Core>> {
-        let Some(end) = End::of(self.session.begin()) else {
+        let Ok(end) = taken(self.session.begin()) else {
             return Err(Refused { core: self, error: CoreError::NoMemory });
         };
         let Core { session, judges } = self;
@@ -353,26 +353,27 @@ impl Core {
             judges,
             book: Book::default(),
         };
-        // Where memory lacks for what it told, the core is behind, and `last` tries again.
-        let _ = core.last();
+        // Where memory lacks for what it told, the core is behind, and `last_told` tries again.
+        let _ = core.last_told();
         Ok(core)
     }
 }
 
 impl RunningCore {
-    /// Whether the event fits now, and what is asked at it.
+    /// Looks whether the event fits now, and what the plan says of its peer. It changes nothing.
     ///
     /// # Errors
     ///
     /// [`CoreError::Stray`] and [`CoreError::NoEvent`] where it doesn't, and [`CoreError::NoMemory`].
-    pub fn asks(&mut self, event: &Event) -> Result<Asked, CoreError> {
+    pub fn check(&mut self, event: &Event) -> Result<Checked, CoreError> {
         set(&mut self.line, event)?;
-        let (number, filter, said) = self.session.fits(self.line.as_bytes());
-        match number {
-            0 => Ok(Asked { filter: None, said }),
-            1 => Ok(Asked { filter: Some(filter), said }),
-            _ => Err(refusal(number, event)),
-        }
+        let (number, filter, is_accepted) = self.session.fits(self.line.as_bytes());
+        let filter = match number {
+            0 => None,
+            1 => Some(filter),
+            _ => return Err(refusal(number, event)),
+        };
+        Ok(Checked { filter, verdict: is_accepted.into() })
     }
 
     /// The step of an event. Of an arrival's peer the plan's blocked addresses decide.
@@ -383,38 +384,35 @@ impl RunningCore {
     /// and [`CoreError::Behind`] after a call that was `Untold`: then nothing has changed.
     /// [`CoreError::Untold`] where the event was taken and memory lacks for what it told.
     pub fn step(&mut self, event: &Event) -> Result<Told<'_>, CoreError> {
-        let accepts = match event {
-            Event::Arrived { peer: Peer::Inet(_), .. } if self.judges => self.asks(event)?.said,
-            _ => true,
+        let verdict = match event {
+            Event::Arrived { peer: Peer::Inet(_), .. } if self.judges => self.check(event)?.verdict,
+            _ => Verdict::Accept,
         };
-        self.step_judged(event, accepts)
+        self.step_judged(event, verdict)
     }
 
     /// The step of an event, with the caller's word on an arrival's peer in place of the plan's:
-    /// [`RunningCore::asks`] tells what the plan says. Where no filter is asked, the word doesn't matter.
+    /// [`RunningCore::check`] tells what the plan says. Where no peer is judged, the word doesn't matter.
     ///
     /// # Errors
     ///
     /// As for [`RunningCore::step`].
-    pub fn step_judged(&mut self, event: &Event, accepts: bool) -> Result<Told<'_>, CoreError> {
+    pub fn step_judged(&mut self, event: &Event, verdict: Verdict) -> Result<Told<'_>, CoreError> {
         self.not_behind()?;
         set(&mut self.line, event)?;
-        let number = self.session.step(self.line.as_bytes(), accepts);
-        let Some(end) = End::of(number) else {
-            return Err(refusal(number, event));
-        };
-        self.end = end;
+        let number = self.session.step(self.line.as_bytes(), verdict == Verdict::Accept);
+        self.end = taken(number).map_err(|number| refusal(number, event))?;
         self.record.is_behind = true;
-        self.last()
+        self.last_told()
     }
 
     fn not_behind(&self) -> Result<(), CoreError> {
         if self.record.is_behind { Err(CoreError::Behind) } else { Ok(()) }
     }
 
-    /// How far the run is.
+    /// How the run has ended, if it has.
     #[must_use]
-    pub fn end(&self) -> End {
+    pub fn end(&self) -> Option<End> {
         self.end
     }
 
@@ -427,7 +425,7 @@ impl RunningCore {
     /// It costs a few steps, but while an address in use rests, when each service is looked at.
     #[must_use]
     pub fn next_due(&mut self) -> Option<u64> {
-        if self.end == End::On { self.session.next_due() } else { None }
+        if self.end.is_none() { self.session.next_due() } else { None }
     }
 
     /// What the last call that was taken told, once more.
@@ -435,7 +433,7 @@ impl RunningCore {
     /// # Errors
     ///
     /// [`CoreError::Untold`] where memory lacks for it.
-    pub fn last(&mut self) -> Result<Told<'_>, CoreError> {
+    pub fn last_told(&mut self) -> Result<Told<'_>, CoreError> {
         let is_behind = self.record.is_behind;
         if is_behind {
             self.book.reserve().map_err(|_| CoreError::Untold)?;
@@ -453,12 +451,12 @@ impl RunningCore {
     /// the core has already. These actions aren't in the record, since the event isn't.
     ///
     /// ```
-    /// use fulltimehen::{Action, Core, Event, Plan};
+    /// use fulltimehen::{Action, Core, Event, FdId, Plan};
     ///
     /// let mut core = Core::new(&Plan::new())?.begin()?;
-    /// let unasked = Event::Bound { service: 0, endpoint: 0, fd: 3 };
+    /// let unasked = Event::Bound { service: 0, endpoint: 0, fd: FdId(3) };
     /// assert!(core.step(&unasked).is_err());
-    /// assert!(core.left_by(&unasked).eq([Action::Close { fd: 3 }]));
+    /// assert!(core.left_by(&unasked).eq([Action::Close { fd: FdId(3) }]));
     /// # Ok::<(), Box<dyn std::error::Error>>(())
     /// ```
     pub fn left_by<'a>(&'a mut self, event: &'a Event) -> impl Iterator<Item = Action> + use<'a> {
@@ -466,14 +464,14 @@ impl RunningCore {
             Event::Arrived { connection, .. } => Some(*connection).filter(|it| !self.has(*it)),
             _ => None,
         };
-        let fds: &[u64] = match event {
+        let fds: &[FdId] = match event {
             Event::Bound { fd, .. } => slice::from_ref(fd),
             Event::Received { fds, .. } => fds,
             _ => &[],
         };
         let book = &self.book;
         let is_left =
-            move |(at, fd): &(usize, &u64)| !book.is_open(**fd) && !fds[..*at].contains(fd);
+            move |(at, fd): &(usize, &FdId)| !book.is_open(**fd) && !fds[..*at].contains(fd);
         let closes = fds.iter().enumerate().filter(is_left);
         let closes = closes.map(|(_, fd)| Action::Close { fd: *fd });
         closes.chain(connection.map(|connection| Action::Refuse { connection }))
@@ -482,25 +480,25 @@ impl RunningCore {
     /// The core has a live connection with this number, or can't say for want of memory.
     fn has(&mut self, connection: u64) -> bool {
         let events = [
-            Event::Set { connection, ok: false },
-            Event::Shaken { connection, ok: false },
+            Event::SettingsFailed { connection },
+            Event::HandshakeFailed { connection },
             Event::Finished { connection },
         ];
-        events.iter().any(|event| !matches!(self.asks(event), Err(CoreError::Stray(_))))
+        events.iter().any(|event| !matches!(self.check(event), Err(CoreError::Stray(_))))
     }
 
     /// Cuts each live connection and closes each open descriptor, and with them what the event brought
     /// that was left unfinished. It is for a run that is given up, or that has ended otherwise than
-    /// `Served`. What it told is [`ClosedCore::last`].
+    /// `Served`. What it told is [`ClosedCore::last_told`].
     ///
     /// ```
-    /// use fulltimehen::{ClosedCore, Core, CoreError, Event, Plan, Service};
+    /// use fulltimehen::{ClosedCore, Core, CoreError, Event, FdId, Plan, Service};
     ///
     /// let web = Service::plain("web").tcp("127.0.0.1:80");
     /// let mut core = Core::new(&Plan::new().service(web))?.begin()?;
-    /// core.step(&Event::Bound { service: 0, endpoint: 0, fd: 3 })?;
+    /// core.step(&Event::Bound { service: 0, endpoint: 0, fd: FdId(3) })?;
     /// let mut closed: ClosedCore = core.close(None).map_err(CoreError::from)?;
-    /// assert_eq!(closed.last()?.record(), "close 3\n");
+    /// assert_eq!(closed.last_told()?.record(), "close 3\n");
     /// # Ok::<(), Box<dyn std::error::Error>>(())
     /// ```
     ///
@@ -516,7 +514,7 @@ impl RunningCore {
                 record.is_behind = true;
                 let mut core = ClosedCore { session, record, end };
                 // As at the beginning.
-                let _ = core.last();
+                let _ = core.last_told();
                 Ok(core)
             }
             Err(error) => Err(Refused { core: self, error }),
@@ -538,9 +536,9 @@ impl RunningCore {
 }
 
 impl ClosedCore {
-    /// How far the run was.
+    /// How the run had ended, if it had.
     #[must_use]
-    pub fn end(&self) -> End {
+    pub fn end(&self) -> Option<End> {
         self.end
     }
 
@@ -549,7 +547,7 @@ impl ClosedCore {
     /// # Errors
     ///
     /// [`CoreError::Untold`] where memory lacks for it.
-    pub fn last(&mut self) -> Result<Told<'_>, CoreError> {
+    pub fn last_told(&mut self) -> Result<Told<'_>, CoreError> {
         self.record.read(&mut self.session)?;
         Ok(Told { end: self.end, record: self.record.lines() })
     }
@@ -591,10 +589,10 @@ mod tests {
         let mut line = Line::default();
         for connection in [0, 9, 10, 12_345, u64::MAX] {
             let mut events = vec![Event::Finished { connection }];
-            for ok in [true, false] {
-                events.push(Event::Set { connection, ok });
-                events.push(Event::Shaken { connection, ok });
-            }
+            events.push(Event::SettingsApplied { connection });
+            events.push(Event::SettingsFailed { connection });
+            events.push(Event::HandshakeDone { connection });
+            events.push(Event::HandshakeFailed { connection });
             for peer in [
                 "0.0.0.0:0",
                 "127.0.0.1:80",

@@ -1,5 +1,6 @@
 //! Events: what a program tells the core.
 
+use crate::numbers::FdId;
 use crate::words::{Hex, Joined, LineError, Words};
 use std::collections::TryReserveError;
 use std::fmt;
@@ -7,7 +8,7 @@ use std::net::{IpAddr, SocketAddr};
 use std::str::FromStr;
 
 /// What a program tells the core. `FORMATS.md`, "Events", says where each fits;
-/// [`RunningCore::asks`](crate::RunningCore::asks) tests it. The numbers of services and of their endpoints
+/// [`RunningCore::check`](crate::RunningCore::check) tests it. The numbers of services and of their endpoints
 /// are those of the plan, from 0; those of descriptors and connections are the program's own, each used
 /// once in a run, and connections best ascending: [`Numbers`](crate::Numbers) gives such ones.
 #[derive(Clone, Debug, PartialEq, Eq)]
@@ -23,8 +24,8 @@ pub enum Event {
         /// The service.
         service: u32,
     },
-    /// The work of a service without endpoints has ended.
-    Ended {
+    /// The work of a service without endpoints has ended: `ended` in a record.
+    WorkEnded {
         /// The service.
         service: u32,
     },
@@ -35,10 +36,10 @@ pub enum Event {
         /// The endpoint of the service.
         endpoint: u32,
         /// The descriptor's number, which is a new one.
-        fd: u64,
+        fd: FdId,
     },
-    /// The address of the endpoint is in use.
-    InUse {
+    /// The address of the endpoint is in use: `inuse` in a record.
+    AddrInUse {
         /// The service.
         service: u32,
         /// The endpoint of the service.
@@ -70,7 +71,7 @@ pub enum Event {
         /// The bytes of the message.
         bytes: Vec<u8>,
         /// The descriptors' numbers, at most 32, each a new one.
-        fds: Vec<u64>,
+        fds: Vec<FdId>,
     },
     /// The try to receive met no sender.
     NoSender,
@@ -83,8 +84,8 @@ pub enum Event {
     },
     /// The successor was reached.
     Connected,
-    /// No successor is there.
-    NotThere,
+    /// No successor is there: `notthere` in a record.
+    NoSuccessor,
     /// The connect isn't done yet.
     Connecting,
     /// The connect failed otherwise.
@@ -115,19 +116,25 @@ pub enum Event {
         /// The system's number of the error, as 24 where too many files are open.
         error: u32,
     },
-    /// The settings of a connection were applied, or weren't.
-    Set {
+    /// All settings of a connection were applied: `set .. ok` in a record.
+    SettingsApplied {
         /// The connection.
         connection: u64,
-        /// All were applied.
-        ok: bool,
     },
-    /// The handshake of a connection is done, or failed.
-    Shaken {
+    /// A setting of a connection couldn't be applied: `set .. no`.
+    SettingsFailed {
         /// The connection.
         connection: u64,
-        /// It is done.
-        ok: bool,
+    },
+    /// The handshake of a connection is done: `shaken .. ok` in a record.
+    HandshakeDone {
+        /// The connection.
+        connection: u64,
+    },
+    /// The handshake of a connection failed, or took too long: `shaken .. no`.
+    HandshakeFailed {
+        /// The connection.
+        connection: u64,
     },
     /// The application is done with the connection.
     Finished {
@@ -152,8 +159,8 @@ pub enum Event {
     ChildReady,
     /// The child is gone.
     ChildGone,
-    /// The parent couldn't drop its rights.
-    DropFailed,
+    /// The parent couldn't drop its rights: `dropfailed` in a record.
+    DropRightsFailed,
 }
 
 /// What an operator asks for.
@@ -174,7 +181,7 @@ pub enum Signal {
 /// use fulltimehen::{Core, Event, Plan, Side};
 ///
 /// let mut core = Core::new(&Plan::new().daemon(true))?.begin()?;
-/// assert_eq!(core.last()?.record(), "daemonize\n");
+/// assert_eq!(core.last_told()?.record(), "daemonize\n");
 /// let told = core.step(&Event::Side { side: Side::Child })?;
 /// assert!(told.record().starts_with("got side child\n"));
 /// # Ok::<(), Box<dyn std::error::Error>>(())
@@ -245,6 +252,34 @@ impl From<SocketAddr> for Peer {
     }
 }
 
+/// Whether a peer is let in.
+///
+/// ```
+/// use fulltimehen::{Action, Verdict};
+///
+/// let told: Action = "judged 7 no".parse()?;
+/// assert_eq!(told, Action::Judged { connection: 7, verdict: Verdict::Refuse });
+/// // Of a filter that answers by a bool.
+/// let is_local = |peer: &str| peer.starts_with("127.");
+/// assert_eq!(Verdict::from(is_local("127.0.0.1:5000")), Verdict::Accept);
+/// # Ok::<(), fulltimehen::LineError>(())
+/// ```
+#[derive(Clone, Copy, Debug, PartialEq, Eq, Hash)]
+#[non_exhaustive]
+pub enum Verdict {
+    /// It is.
+    Accept,
+    /// It isn't: its connection is dropped.
+    Refuse,
+}
+
+impl From<bool> for Verdict {
+    /// True lets the peer in.
+    fn from(is_accepted: bool) -> Verdict {
+        if is_accepted { Verdict::Accept } else { Verdict::Refuse }
+    }
+}
+
 /// An address as a script has it: of IPv6 all eight groups.
 pub(crate) struct IpWord(pub IpAddr);
 
@@ -292,19 +327,15 @@ impl Event {
     }
 }
 
-fn ok_word(ok: bool) -> &'static str {
-    if ok { "ok" } else { "no" }
-}
-
 /// The event's line, as a record has it behind `got`.
 impl fmt::Display for Event {
     fn fmt(&self, f: &mut fmt::Formatter<'_>) -> fmt::Result {
         match self {
             Event::Moment { ms } => write!(f, "moment {ms}"),
             Event::Ready { service } => write!(f, "ready {service}"),
-            Event::Ended { service } => write!(f, "ended {service}"),
+            Event::WorkEnded { service } => write!(f, "ended {service}"),
             Event::Bound { service, endpoint, fd } => write!(f, "bound {service} {endpoint} {fd}"),
-            Event::InUse { service, endpoint } => write!(f, "inuse {service} {endpoint}"),
+            Event::AddrInUse { service, endpoint } => write!(f, "inuse {service} {endpoint}"),
             Event::BindFailed { service, endpoint } => write!(f, "bindfailed {service} {endpoint}"),
             Event::Adopted { service, endpoint } => write!(f, "adopted {service} {endpoint}"),
             Event::AdoptFailed { service, endpoint } => {
@@ -317,7 +348,7 @@ impl fmt::Display for Event {
             Event::ReceiveFailed => f.write_str("receivefailed"),
             Event::Signal { kind } => write!(f, "signal {kind}"),
             Event::Connected => f.write_str("connected"),
-            Event::NotThere => f.write_str("notthere"),
+            Event::NoSuccessor => f.write_str("notthere"),
             Event::Connecting => f.write_str("connecting"),
             Event::ConnectFailed => f.write_str("connectfailed"),
             Event::Sent => f.write_str("sent"),
@@ -329,8 +360,10 @@ impl fmt::Display for Event {
             Event::AcceptFailed { service, endpoint, error } => {
                 write!(f, "acceptfailed {service} {endpoint} {error}")
             }
-            Event::Set { connection, ok } => write!(f, "set {connection} {}", ok_word(*ok)),
-            Event::Shaken { connection, ok } => write!(f, "shaken {connection} {}", ok_word(*ok)),
+            Event::SettingsApplied { connection } => write!(f, "set {connection} ok"),
+            Event::SettingsFailed { connection } => write!(f, "set {connection} no"),
+            Event::HandshakeDone { connection } => write!(f, "shaken {connection} ok"),
+            Event::HandshakeFailed { connection } => write!(f, "shaken {connection} no"),
             Event::Finished { connection } => write!(f, "finished {connection}"),
             Event::LoopEnded { service, endpoint, number } => {
                 write!(f, "loopended {service} {endpoint} {number}")
@@ -339,7 +372,7 @@ impl fmt::Display for Event {
             Event::Side { side: Side::Parent } => f.write_str("side parent"),
             Event::ChildReady => f.write_str("childready"),
             Event::ChildGone => f.write_str("childgone"),
-            Event::DropFailed => f.write_str("dropfailed"),
+            Event::DropRightsFailed => f.write_str("dropfailed"),
         }
     }
 }
@@ -361,17 +394,17 @@ fn event_of(words: &mut Words<'_>) -> Result<Event, LineError> {
     Ok(match words.word()? {
         "moment" => Event::Moment { ms: words.number()? },
         "ready" => Event::Ready { service: words.number()? },
-        "ended" => Event::Ended { service: words.number()? },
+        "ended" => Event::WorkEnded { service: words.number()? },
         "bound" => Event::Bound {
             service: words.number()?,
             endpoint: words.number()?,
             fd: words.number()?,
         },
-        "inuse" => Event::InUse { service: words.number()?, endpoint: words.number()? },
+        "inuse" => Event::AddrInUse { service: words.number()?, endpoint: words.number()? },
         "bindfailed" => Event::BindFailed { service: words.number()?, endpoint: words.number()? },
         "adopted" => Event::Adopted { service: words.number()?, endpoint: words.number()? },
         "adoptfailed" => Event::AdoptFailed { service: words.number()?, endpoint: words.number()? },
-        "received" => Event::Received { bytes: words.bytes()?, fds: words.numbers()? },
+        "received" => Event::Received { bytes: words.bytes()?, fds: words.fds()? },
         "nosender" => Event::NoSender,
         "receivefailed" => Event::ReceiveFailed,
         "signal" => Event::Signal {
@@ -383,7 +416,7 @@ fn event_of(words: &mut Words<'_>) -> Result<Event, LineError> {
             },
         },
         "connected" => Event::Connected,
-        "notthere" => Event::NotThere,
+        "notthere" => Event::NoSuccessor,
         "connecting" => Event::Connecting,
         "connectfailed" => Event::ConnectFailed,
         "sent" => Event::Sent,
@@ -406,8 +439,14 @@ fn connection_event(key: &str, words: &mut Words<'_>) -> Result<Event, LineError
             endpoint: words.number()?,
             error: words.number()?,
         },
-        "set" => Event::Set { connection: words.number()?, ok: words.either("ok", "no")? },
-        "shaken" => Event::Shaken { connection: words.number()?, ok: words.either("ok", "no")? },
+        "set" => match (words.number()?, words.either("ok", "no")?) {
+            (connection, true) => Event::SettingsApplied { connection },
+            (connection, false) => Event::SettingsFailed { connection },
+        },
+        "shaken" => match (words.number()?, words.either("ok", "no")?) {
+            (connection, true) => Event::HandshakeDone { connection },
+            (connection, false) => Event::HandshakeFailed { connection },
+        },
         "finished" => Event::Finished { connection: words.number()? },
         "loopended" => Event::LoopEnded {
             service: words.number()?,
@@ -419,7 +458,7 @@ fn connection_event(key: &str, words: &mut Words<'_>) -> Result<Event, LineError
         },
         "childready" => Event::ChildReady,
         "childgone" => Event::ChildGone,
-        "dropfailed" => Event::DropFailed,
+        "dropfailed" => Event::DropRightsFailed,
         _ => return Err(words.error()),
     })
 }
@@ -438,7 +477,10 @@ mod tests {
             "arrived 0 1 4 [2001:db8:0:0:0:0:0:1]:443",
             "arrived 0 1 5 192.168.1.2:8080",
             "arrived 0 1 6 unix",
+            "set 3 ok",
             "set 3 no",
+            "shaken 3 ok",
+            "shaken 3 no",
             "side parent",
             "loopended 1 0 2",
         ] {

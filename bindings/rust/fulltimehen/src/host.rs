@@ -2,7 +2,7 @@
 
 use crate::action::Action;
 use crate::core::{Core, CoreError, End, Refused, RunningCore, Told};
-use crate::event::Event;
+use crate::event::{Event, Verdict};
 use crate::line::Line;
 use crate::messages::{Shown, fits_where};
 use crate::record::Record;
@@ -80,11 +80,12 @@ pub trait Host {
         let _ = moment;
     }
 
-    /// What the filter with this number says at the event: whether the peer is accepted. By itself it says
-    /// what the plan's blocked addresses say.
-    fn judge(&mut self, filter: u32, event: &Event, said: bool) -> bool {
+    /// What the filter with this number says of the peer of the event, which is an [`Event::Arrived`]. It is asked
+    /// for each peer of a service that blocks addresses, with what the plan says of that one, and says the same
+    /// by itself.
+    fn judge(&mut self, filter: u32, event: &Event, planned: Verdict) -> Verdict {
         let _ = (filter, event);
-        said
+        planned
     }
 
     /// The lines that a call added to the record, before its actions are told. By itself it drops them.
@@ -128,8 +129,8 @@ macro_rules! host_by {
             fn due(&mut self, moment: Option<u64>) {
                 (**self).due(moment);
             }
-            fn judge(&mut self, filter: u32, event: &Event, said: bool) -> bool {
-                (**self).judge(filter, event, said)
+            fn judge(&mut self, filter: u32, event: &Event, planned: Verdict) -> Verdict {
+                (**self).judge(filter, event, planned)
             }
             fn record(&mut self, lines: &str) {
                 (**self).record(lines);
@@ -272,7 +273,7 @@ fn pass_on(told: Told<'_>, host: &mut (impl Host + ?Sized)) {
 /// told may be a descriptor that stays open.
 fn tell_last(core: &mut RunningCore, host: &mut (impl Host + ?Sized)) {
     loop {
-        if let Ok(told) = core.last() {
+        if let Ok(told) = core.last_told() {
             return pass_on(told, host);
         }
         sleep(PAUSE);
@@ -296,7 +297,7 @@ fn close(mut core: RunningCore, mut event: Option<&Event>, host: &mut (impl Host
         };
     };
     loop {
-        if let Ok(told) = core.last() {
+        if let Ok(told) = core.last_told() {
             return pass_on(told, host);
         }
         sleep(PAUSE);
@@ -330,11 +331,11 @@ fn give_up(
 /// Why the run ended otherwise than by its shutdown.
 ///
 /// ```
-/// use fulltimehen::{Action, Core, Event, Host, Next, Outcome, Plan, Service, Signal};
+/// use fulltimehen::{Action, Core, Event, FdId, Host, Next, Outcome, Plan, Service, Signal};
 ///
 /// /// A bind succeeds at once, and then the operator stops the server.
 /// #[derive(Default)]
-/// struct Script { answers: Vec<Event>, closed: Vec<u64>, record: String }
+/// struct Script { answers: Vec<Event>, closed: Vec<FdId>, record: String }
 ///
 /// impl Host for Script {
 ///     fn next(&mut self) -> Next {
@@ -343,7 +344,7 @@ fn give_up(
 ///     fn tell(&mut self, action: Action) {
 ///         match action {
 ///             Action::Bind { service, endpoint } => {
-///                 self.answers.push(Event::Bound { service, endpoint, fd: 7 });
+///                 self.answers.push(Event::Bound { service, endpoint, fd: FdId(7) });
 ///             }
 ///             Action::Close { fd } => self.closed.push(fd),
 ///             _ => {}
@@ -356,7 +357,7 @@ fn give_up(
 /// let mut host = Script::default();
 /// let outcome = fulltimehen::run(Core::new(&plan)?, &mut host)?;
 /// assert_eq!(outcome, Outcome::Served);
-/// assert_eq!(host.closed, [7]);
+/// assert_eq!(host.closed, [FdId(7)]);
 /// assert!(host.record.ends_with("phase Terminated 0\n"));
 /// # Ok::<(), Box<dyn std::error::Error>>(())
 /// ```
@@ -364,7 +365,7 @@ pub fn run(core: Core, host: &mut (impl Host + ?Sized)) -> Result<Outcome, RunEr
     let mut core = core.begin().map_err(|refused| RunError::Core(refused.error))?;
     tell_last(&mut core, host);
     let mut came = 0;
-    while core.end() == End::On {
+    while core.end().is_none() {
         host.due(core.next_due());
         let event = match host.next() {
             Next::Event(event) => event,
@@ -400,14 +401,14 @@ fn try_to_take(
     event: &Event,
     host: &mut (impl Host + ?Sized),
 ) -> Result<(), CoreError> {
-    let mut accepts = true;
+    let mut verdict = Verdict::Accept;
     if matches!(event, Event::Arrived { .. }) {
-        let asked = core.asks(event)?;
-        if let Some(filter) = asked.filter {
-            accepts = host.judge(filter, event, asked.said);
+        let checked = core.check(event)?;
+        if let Some(filter) = checked.filter {
+            verdict = host.judge(filter, event, checked.verdict);
         }
     }
-    match core.step_judged(event, accepts) {
+    match core.step_judged(event, verdict) {
         Ok(_) | Err(CoreError::Untold) => {
             tell_last(core, host);
             Ok(())
@@ -444,10 +445,10 @@ fn refused(
 
 fn finish(core: RunningCore, host: &mut (impl Host + ?Sized)) -> Result<Outcome, RunError> {
     let outcome = match core.end() {
-        End::On | End::Served => return Ok(Outcome::Served),
-        End::Tested => Outcome::Tested,
-        End::Parent(status) => Outcome::Parent(status),
-        end => return Err(give_up(core, None, host, RunError::Bootstrap(end))),
+        None | Some(End::Served) => return Ok(Outcome::Served),
+        Some(End::Tested) => Outcome::Tested,
+        Some(End::Parent(status)) => Outcome::Parent(status),
+        Some(end) => return Err(give_up(core, None, host, RunError::Bootstrap(end))),
     };
     close(core, None, host);
     Ok(outcome)

@@ -15,18 +15,18 @@
 //! its texts, is made as std makes it, and so is what is said of a plan that is refused.
 //!
 //! ```
-//! use fulltimehen::{Action, Core, End, Event, Plan, Service, Signal};
+//! use fulltimehen::{Action, Core, End, Event, FdId, Plan, Service, Signal};
 //!
 //! let plan = Plan::new().service(Service::plain("web").tcp("127.0.0.1:80"));
 //! let mut core = Core::new(&plan)?.begin()?;
-//! assert_eq!(core.last()?.record(), "start 0\nbind 0 0\nphase Running 0\n");
+//! assert_eq!(core.last_told()?.record(), "start 0\nbind 0 0\nphase Running 0\n");
 //!
-//! let told = core.step(&Event::Bound { service: 0, endpoint: 0, fd: 3 })?;
-//! assert_eq!(told.end(), End::On);
+//! let told = core.step(&Event::Bound { service: 0, endpoint: 0, fd: FdId(3) })?;
+//! assert_eq!(told.end(), None);
 //!
 //! let told = core.step(&Event::Signal { kind: Signal::Fast })?;
-//! assert!(told.actions().any(|action| action == Action::Close { fd: 3 }));
-//! assert_eq!(told.end(), End::Served);
+//! assert!(told.actions().any(|action| action == Action::Close { fd: FdId(3) }));
+//! assert_eq!(told.end(), Some(End::Served));
 //! # Ok::<(), Box<dyn std::error::Error>>(())
 //! ```
 
@@ -56,10 +56,10 @@ mod words;
 
 pub use action::{Action, Phase, Setting};
 pub use configuration::{Configuration, ConfigurationError, ConfigurationFault, HistogramScale};
-pub use core::{Asked, ClosedCore, Core, CoreError, End, Refused, RunningCore, Told};
-pub use event::{Event, Peer, Side, Signal};
+pub use core::{Checked, ClosedCore, Core, CoreError, End, Refused, RunningCore, Told};
+pub use event::{Event, Peer, Side, Signal, Verdict};
 pub use host::{Host, Next, OnStray, Outcome, RunError, Stray, run};
-pub use numbers::Numbers;
+pub use numbers::{FdId, Numbers};
 pub use plan::{Endpoint, KeepAlive, Plan, PlanError, Service, TcpOptions, WordFault};
 pub use record::{Record, RecordError};
 pub use words::LineError;

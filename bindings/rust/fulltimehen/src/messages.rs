@@ -51,13 +51,13 @@ pub(crate) fn fits_where(event: &Event) -> &'static str {
         Event::Ready { .. } => {
             "its service is of the kind notify, is started and hasn't said so before"
         }
-        Event::Ended { .. } => {
+        Event::WorkEnded { .. } => {
             "its service is started, bootstraps not, has no endpoints and hasn't ended before"
         }
         Event::Bound { .. } => {
             "a bind of the endpoint was told and isn't answered yet, and the number is a new one"
         }
-        Event::InUse { .. } | Event::BindFailed { .. } => {
+        Event::AddrInUse { .. } | Event::BindFailed { .. } => {
             "a bind of the endpoint was told and isn't answered yet"
         }
         Event::Adopted { .. } | Event::AdoptFailed { .. } => {
@@ -68,7 +68,7 @@ pub(crate) fn fits_where(event: &Event) -> &'static str {
         }
         Event::NoSender | Event::ReceiveFailed => "a tryreceive was told and isn't answered yet",
         Event::Signal { .. } => "phase Running was told",
-        Event::Connected | Event::NotThere | Event::Connecting | Event::ConnectFailed => {
+        Event::Connected | Event::NoSuccessor | Event::Connecting | Event::ConnectFailed => {
             "a connect was told and isn't answered yet"
         }
         Event::Sent | Event::SendBusy | Event::SendFailed => {
@@ -80,14 +80,18 @@ pub(crate) fn fits_where(event: &Event) -> &'static str {
         Event::AcceptFailed { .. } => {
             "all endpoints of its service are bound, and an accept loop goes on"
         }
-        Event::Set { .. } => "settings of the connection were told and aren't answered yet",
-        Event::Shaken { .. } => "a handshake of the connection was told and isn't answered yet",
+        Event::SettingsApplied { .. } | Event::SettingsFailed { .. } => {
+            "settings of the connection were told and aren't answered yet"
+        }
+        Event::HandshakeDone { .. } | Event::HandshakeFailed { .. } => {
+            "a handshake of the connection was told and isn't answered yet"
+        }
         Event::Finished { .. } => "a serve of the connection was told, and it is live",
         Event::LoopEnded { .. } => {
             "broadcast was told, and the accept loop is there and hasn't ended before"
         }
         Event::Side { .. } => "daemonize was told and isn't answered yet",
-        Event::ChildReady | Event::ChildGone | Event::DropFailed => {
+        Event::ChildReady | Event::ChildGone | Event::DropRightsFailed => {
             "the process is a parent that waits for its child"
         }
     }

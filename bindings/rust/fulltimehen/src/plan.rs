@@ -56,7 +56,7 @@ impl Plan {
     ///
     /// let plan = Plan::from_script("%conf\nthreads: 2\n%services\nweb plain tcp 127.0.0.1:80\n%events\n");
     /// let mut core = Core::new(&plan)?.begin()?;
-    /// assert!(core.last()?.record().starts_with("start 0\nbind 0 0\n"));
+    /// assert!(core.last_told()?.record().starts_with("start 0\nbind 0 0\n"));
     /// # Ok::<(), Box<dyn std::error::Error>>(())
     /// ```
     #[must_use]

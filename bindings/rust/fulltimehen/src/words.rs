@@ -1,5 +1,6 @@
 //! Words that lines are made of.
 
+use crate::numbers::FdId;
 use std::fmt;
 use std::str::FromStr;
 
@@ -93,7 +94,7 @@ impl<'a> Words<'a> {
         self.list(word.as_bytes().chunks(2).map(byte))
     }
 
-    pub(crate) fn numbers(&mut self) -> Result<Vec<u64>, LineError> {
+    pub(crate) fn fds(&mut self) -> Result<Vec<FdId>, LineError> {
         let word = self.word()?;
         if word == "-" {
             return Ok(Vec::new());
@@ -147,7 +148,7 @@ impl fmt::Display for Hex<'_> {
 }
 
 /// Numbers as a word, joined by commas, and a dash for none.
-pub(crate) struct Joined<'a>(pub &'a [u64]);
+pub(crate) struct Joined<'a>(pub &'a [FdId]);
 
 impl fmt::Display for Joined<'_> {
     fn fmt(&self, f: &mut fmt::Formatter<'_>) -> fmt::Result {

@@ -4,7 +4,7 @@
 #[allow(dead_code)]
 mod random;
 
-use fulltimehen::{Core, End, Event, Plan, RunningCore};
+use fulltimehen::{Core, Event, Plan, RunningCore};
 use random::{Draw, fitting, head};
 
 /// How far ahead a moment lies that is behind all that may wait.
@@ -31,14 +31,14 @@ fn try_moments(core: &mut RunningCore, moment: u64, reaches: bool, given: &mut G
     // A parent that waits no time is due at the last moment itself.
     if due != Some(before) {
         let told = told_at(core, before);
-        assert_eq!(told, 0, "{before}, {due:?}: {}", core.last().expect("memory").record());
+        assert_eq!(told, 0, "{before}, {due:?}: {}", core.last_told().expect("memory").record());
         assert_eq!(core.next_due(), due, "a moment that tells nothing changes nothing");
         given.calm += 1;
     }
     match due {
         Some(due) if reaches => {
             let told = told_at(core, due);
-            assert!(told > 0 || core.end() != End::On, "nothing at {due}");
+            assert!(told > 0 || core.end().is_some(), "nothing at {due}");
             given.due += 1;
             due
         }
@@ -57,11 +57,11 @@ fn moments(seed: u64, given: &mut Given) {
     let mut core = core.begin().expect("memory");
     let (mut next, mut moment) = (3, 0);
     for step in 0..100 {
-        if core.end() != End::On {
+        if core.end().is_some() {
             break;
         }
         moment = try_moments(&mut core, moment, step % 3 == 0, given);
-        if core.end() != End::On {
+        if core.end().is_some() {
             break;
         }
         let Some(event) = fitting(&mut draw, &mut core, services, next, moment) else {

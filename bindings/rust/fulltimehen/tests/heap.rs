@@ -6,8 +6,8 @@
 #![cfg(not(feature = "heap"))]
 
 use fulltimehen::{
-    Action, Core, CoreError, Event, Host, Next, Numbers, OnStray, Outcome, Peer, Plan, Record,
-    RecordError, RunningCore, Service, Signal, Stray,
+    Action, Core, CoreError, Event, FdId, Host, Next, Numbers, OnStray, Outcome, Peer, Plan,
+    Record, RecordError, RunningCore, Service, Signal, Stray,
 };
 use std::alloc::{GlobalAlloc, Layout, System};
 use std::cell::Cell;
@@ -124,7 +124,8 @@ fn core() -> RunningCore {
 }
 
 fn bind(core: &mut RunningCore, endpoint: u32) {
-    core.step(&Event::Bound { service: 0, endpoint, fd: endpoint.into() }).expect("it fits");
+    let fd = FdId(endpoint.into());
+    core.step(&Event::Bound { service: 0, endpoint, fd }).expect("it fits");
 }
 
 /// The same with all endpoints held, so that connections may come.
@@ -183,7 +184,7 @@ fn fail_in_turn(made: impl Fn() -> RunningCore, event: &Event) -> (usize, usize)
             }
             Err(error) => panic!("{error}"),
         }
-        assert_eq!(core.last().expect("memory").record(), whole, "allocation {at}");
+        assert_eq!(core.last_told().expect("memory").record(), whole, "allocation {at}");
     }
     (refused, untold)
 }
@@ -202,8 +203,8 @@ fn no_action_is_lost() {
     let cases: [(fn() -> RunningCore, Event); 4] = [
         (serving, arrived(Peer::Unknown)),
         (serving, arrived(v4)),
-        (begun, Event::Bound { service: 0, endpoint: 0, fd: u64::MAX }),
-        (waiting, Event::Received { bytes: b"127.0.0.1:0 b".repeat(90), fds: vec![1, 2, 3] }),
+        (begun, Event::Bound { service: 0, endpoint: 0, fd: FdId(u64::MAX) }),
+        (waiting, received(b"127.0.0.1:0 b".repeat(90), [1, 2, 3])),
     ];
     for (made, event) in cases {
         let (refused, _) = fail_in_turn(made, &event);
@@ -216,8 +217,14 @@ fn no_action_is_lost() {
             (0..count).for_each(|endpoint| bind(&mut core, endpoint));
             core
         };
-        fail_in_turn(made, &Event::Bound { service: 0, endpoint: count, fd: count.into() });
+        let fd = FdId(count.into());
+        fail_in_turn(made, &Event::Bound { service: 0, endpoint: count, fd });
     }
+}
+
+/// An older server's message, with descriptors of these numbers.
+fn received(bytes: Vec<u8>, fds: impl IntoIterator<Item = u64>) -> Event {
+    Event::Received { bytes, fds: fds.into_iter().map(FdId).collect() }
 }
 
 /// A core that waits for an older server's message.
@@ -230,7 +237,7 @@ fn waiting() -> RunningCore {
 #[test]
 fn the_first_step_is_refused_or_taken() {
     let core = || Core::new(&plan()).expect("a plan");
-    let whole = core().begin().expect("memory").last().expect("memory").record().to_owned();
+    let whole = core().begin().expect("memory").last_told().expect("memory").record().to_owned();
     let (mut refused, mut later) = (0, 0);
     for at in 0..MOST {
         let core = core();
@@ -248,7 +255,7 @@ fn the_first_step_is_refused_or_taken() {
         };
         // What doesn't fit changes nothing.
         later += usize::from(matches!(core.step(&Event::NoSender), Err(CoreError::Behind)));
-        assert_eq!(core.last().expect("memory").record(), whole, "allocation {at}");
+        assert_eq!(core.last_told().expect("memory").record(), whole, "allocation {at}");
     }
     assert!(refused > 0 && later > 0, "{refused} refused, {later} later");
 }
@@ -257,7 +264,7 @@ fn the_first_step_is_refused_or_taken() {
 /// either case.
 #[test]
 fn a_stray_is_refused_without_memory() {
-    let stray = Event::Received { bytes: vec![0; 1000], fds: (0..50).chain(100..110).collect() };
+    let stray = received(vec![0; 1000], (0..50).chain(100..110));
     for count in 0..20 {
         let mut core = core();
         FAULTS.set((count, MOST));
@@ -375,8 +382,8 @@ fn serve(core: &mut RunningCore, count: u64, mut next: impl FnMut() -> u64) {
         let peer = Peer::Unknown;
         for event in [
             Event::Arrived { service: 0, endpoint: 0, connection, peer },
-            Event::Set { connection, ok: true },
-            Event::Shaken { connection, ok: true },
+            Event::SettingsApplied { connection },
+            Event::HandshakeDone { connection },
             Event::Finished { connection },
         ] {
             core.step(&event).expect("it fits");

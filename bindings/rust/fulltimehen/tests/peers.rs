@@ -1,13 +1,13 @@
 //! Who is let in.
 
-use fulltimehen::{Core, Event, Peer, Plan, RunningCore, Service};
+use fulltimehen::{Core, Event, FdId, Peer, Plan, RunningCore, Service, Verdict};
 use std::net::{Ipv4Addr, SocketAddr};
 
 /// A core whose one service blocks 10.0.0.1, and is bound.
 fn core(service: Service) -> RunningCore {
     let plan = Plan::new().service(service.tcp("127.0.0.1:80"));
     let mut core = Core::new(&plan).expect("a plan").begin().expect("memory");
-    core.step(&Event::Bound { service: 0, endpoint: 0, fd: 1 }).expect("it fits");
+    core.step(&Event::Bound { service: 0, endpoint: 0, fd: FdId(1) }).expect("it fits");
     core
 }
 
@@ -41,7 +41,7 @@ fn a_blocked_peer_is_refused() {
     .enumerate()
     {
         let event = arrived(connection as u64, peer);
-        assert!(!core.asks(&event).expect("it fits").said, "{peer:?}");
+        assert_eq!(core.check(&event).expect("it fits").verdict, Verdict::Refuse, "{peer:?}");
         assert!(!is_accepted(&mut core, &event), "{peer:?}");
     }
     for (connection, peer) in ["10.0.0.2:5", "[::a00:1]:5", "unix"].into_iter().enumerate() {
@@ -64,9 +64,11 @@ fn a_block_is_canonical() {
 fn a_judged_step_has_the_callers_word() {
     let mut core = core(blocking());
     let blocked = arrived(1, "10.0.0.1:5".parse().expect("a peer"));
-    assert!(core.step_judged(&blocked, true).expect("it fits").record().contains("judged 1 yes\n"));
+    let told = core.step_judged(&blocked, Verdict::Accept).expect("it fits");
+    assert!(told.record().contains("judged 1 yes\n"));
     let other = arrived(2, "10.0.0.2:5".parse().expect("a peer"));
-    assert!(core.step_judged(&other, false).expect("it fits").record().contains("judged 2 no\n"));
+    let told = core.step_judged(&other, Verdict::Refuse).expect("it fits");
+    assert!(told.record().contains("judged 2 no\n"));
 }
 
 /// Only of the service that blocks it.
@@ -77,7 +79,8 @@ fn another_service_lets_it_in() {
         .service(Service::plain("open").tcp("127.0.0.1:81"));
     let mut core = Core::new(&plan).expect("a plan").begin().expect("memory");
     for service in 0..2 {
-        core.step(&Event::Bound { service, endpoint: 0, fd: service.into() }).expect("it fits");
+        let fd = FdId(service.into());
+        core.step(&Event::Bound { service, endpoint: 0, fd }).expect("it fits");
     }
     let peer: Peer = "10.0.0.1:5".parse().expect("a peer");
     for (service, accepts) in [(0, false), (1, true)] {

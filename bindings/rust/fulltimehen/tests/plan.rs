@@ -1,8 +1,8 @@
 //! What a plan may say, and how it is refused.
 
 use fulltimehen::{
-    Configuration, ConfigurationFault, Core, Event, HistogramScale, KeepAlive, Plan, PlanError,
-    Service, TcpOptions, WordFault,
+    Configuration, ConfigurationFault, Core, Event, FdId, HistogramScale, KeepAlive, Plan,
+    PlanError, Service, TcpOptions, WordFault,
 };
 use std::error::Error;
 use std::time::Duration;
@@ -13,7 +13,7 @@ fn refused(plan: &Plan) -> PlanError {
 
 fn begun(plan: &Plan) -> String {
     let mut core = Core::new(plan).expect("a plan").begin().expect("memory");
-    core.last().expect("memory").record().to_owned()
+    core.last_told().expect("memory").record().to_owned()
 }
 
 /// A name that a script would skip or refuse is refused by name and cause, and no service vanishes.
@@ -146,7 +146,7 @@ fn options_are_said_by_type() {
         core.step(&event).expect("it fits");
     }
     assert_eq!(
-        core.last().expect("memory").record(),
+        core.last_told().expect("memory").record(),
         "got arrived 0 1 3 -\nsettings 3 nodelay \
          keepalive=60000000000,7,5,18446744073709551615 dscp=255 sndbuf=4096 rcvbuf=8192\n"
     );
@@ -163,7 +163,7 @@ fn claims_and_undeclared_services_keep_what_comes() {
     ] {
         let plan = Plan::new().eager(true).upgrade(true).service(service);
         let mut core = Core::new(&plan).expect("a plan").begin().expect("memory");
-        let received = Event::Received { bytes: b"a:1".to_vec(), fds: vec![9] };
+        let received = Event::Received { bytes: b"a:1".to_vec(), fds: vec![FdId(9)] };
         let told = core.step(&received).expect("it fits");
         assert_eq!(told.record().contains("close 9\n"), closes, "{plan:?}");
     }

@@ -1,8 +1,8 @@
 //! How runs go on and end.
 
 use fulltimehen::{
-    Action, Core, CoreError, End, Event, Host, Next, OnStray, Outcome, Plan, PlanError, RunError,
-    Service, Signal, Stray,
+    Action, Core, CoreError, End, Event, FdId, Host, Next, OnStray, Outcome, Plan, PlanError,
+    RunError, Service, Signal, Stray,
 };
 use std::collections::VecDeque;
 use std::env;
@@ -177,7 +177,8 @@ fn a_stray_event_ends_the_run_that_wants_it() {
     host.ends = true;
     let error = fulltimehen::run(core(), &mut host).expect_err("a stray");
     let RunError::Stray(stray) = &error else { panic!("{error}") };
-    assert_eq!((stray.number, &stray.event), (2, &Event::Bound { service: 0, endpoint: 0, fd: 4 }));
+    let second = Event::Bound { service: 0, endpoint: 0, fd: FdId(4) };
+    assert_eq!((stray.number, &stray.event), (2, &second));
     assert_eq!(error.status().as_deref(), Some("stray 2"));
     assert!(error.to_string().starts_with("bound 0 0 4, event 2, doesn't fit there"));
     assert_eq!((host.has_told("close 3"), host.has_told("close 4")), (1, 1));
@@ -187,14 +188,14 @@ fn a_stray_event_ends_the_run_that_wants_it() {
 #[test]
 fn too_many_descriptors_are_closed() {
     for ends in [false, true] {
-        let fds: Vec<u64> = (10..43).collect();
+        let fds: Vec<FdId> = (10..43).map(FdId).collect();
         let mut host = Script::of(&["bound 0 0 3"]);
         host.events.push_back(Event::Received { bytes: Vec::new(), fds: fds.clone() });
         host.events.push_back(Event::Signal { kind: Signal::Fast });
         host.ends = ends;
         let ended = fulltimehen::run(core(), &mut host);
         assert_eq!(ended.is_err(), ends);
-        for fd in fds.into_iter().chain([3]) {
+        for fd in fds.into_iter().chain([FdId(3)]) {
             assert_eq!(host.has_told(&format!("close {fd}")), 1, "{fd}");
         }
         assert!(
@@ -256,7 +257,7 @@ fn errors_have_causes() {
 #[test]
 fn each_step_may_have_its_own_thread() {
     let mut core = core().begin().expect("memory");
-    let mut record = core.last().expect("memory").record().to_owned();
+    let mut record = core.last_told().expect("memory").record().to_owned();
     for line in ["bound 0 0 3", "arrived 0 0 5 -", "set 5 ok", "signal fast"] {
         let event: Event = line.parse().expect("an event");
         let step = move || {
@@ -268,7 +269,7 @@ fn each_step_may_have_its_own_thread() {
         record += &told;
     }
     let closed = thread::spawn(move || core.close(None).expect("memory")).join().expect("it ends");
-    assert_eq!(closed.end(), End::Served);
+    assert_eq!(closed.end(), Some(End::Served));
     assert_eq!(
         record,
         "start 0\nbind 0 0\nphase Running 0\ngot bound 0 0 3\ngot arrived 0 0 5 -\nsettings 5 nodelay\ngot set 5 ok\nhandshake 5\n\
@@ -284,18 +285,18 @@ fn cores_can_be_shown() {
     let core = core();
     assert_eq!(format!("{core:?}"), "Core { .. }");
     let core = core.begin().expect("memory");
-    assert_eq!(format!("{core:?}"), "RunningCore { end: On, .. }");
-    assert_eq!(format!("{:?}", core.close(None).expect("memory")), "ClosedCore { end: On, .. }");
+    assert_eq!(format!("{core:?}"), "RunningCore { end: None, .. }");
+    assert_eq!(format!("{:?}", core.close(None).expect("memory")), "ClosedCore { end: None, .. }");
 }
 
 #[test]
 fn a_refused_close_gives_the_core_back() {
     let core = core().begin().expect("memory");
-    let event = Event::Received { bytes: Vec::new(), fds: (0..33).collect() };
+    let event = Event::Received { bytes: Vec::new(), fds: (0..33).map(FdId).collect() };
     let refused = core.close(Some(&event)).expect_err("no event");
     assert_eq!(refused.error, CoreError::NoEvent(event));
     let mut core = refused.core;
-    core.step(&Event::Bound { service: 0, endpoint: 0, fd: 3 }).expect("it goes on");
+    core.step(&Event::Bound { service: 0, endpoint: 0, fd: FdId(3) }).expect("it goes on");
     let mut closed = core.close(None).expect("memory");
-    assert_eq!(closed.last().expect("memory").record(), "close 3\n");
+    assert_eq!(closed.last_told().expect("memory").record(), "close 3\n");
 }

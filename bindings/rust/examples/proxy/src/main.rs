@@ -74,7 +74,7 @@ impl Proxy {
     /// Serves a connection's asks until it ends. When the server shuts down, that is after the present one.
     async fn serve(self: Arc<Self>, mut client: Connection) -> hyper::Result<()> {
         client.set_idle_timeout(Some(Duration::from_secs(75)));
-        let mut shutdown = client.shutdown();
+        let mut shutdown = client.shutdown_signal();
         let service = service_fn(move |ask| Arc::clone(&self).answer(ask));
         let served = Http::new().http1_only(true).serve_connection(client, service);
         tokio::pin!(served);

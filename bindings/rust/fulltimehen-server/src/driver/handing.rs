@@ -7,10 +7,9 @@ use crate::pid_file;
 use crate::process::Process;
 use crate::succession::Held;
 use crate::takeover::{self, Ended};
-use fulltimehen::{Event, Signal};
+use fulltimehen::{Event, FdId, Signal};
 use nix::time::{ClockId, clock_gettime};
 use std::io;
-use std::os::fd::AsFd;
 use std::path::{Path, PathBuf};
 use std::rc::Rc;
 use std::sync::Arc;
@@ -44,7 +43,7 @@ impl Driver {
             Input::Reclaimed => self.frozen = !self.loops.is_empty(),
             Input::Message { bytes, sockets } => {
                 let fds = sockets.into_iter().map(|(word, listener)| self.keep(word, listener));
-                match fds.collect::<io::Result<Vec<u64>>>() {
+                match fds.collect::<io::Result<Vec<FdId>>>() {
                     Ok(fds) => self.events.push_back(Event::Received { bytes, fds }),
                     Err(error) => {
                         self.transfer = Some(error.to_string());
@@ -167,7 +166,7 @@ impl Driver {
             Err(error) => match error.kind() {
                 io::ErrorKind::NotFound
                 | io::ErrorKind::ConnectionRefused
-                | io::ErrorKind::PermissionDenied => Event::NotThere,
+                | io::ErrorKind::PermissionDenied => Event::NoSuccessor,
                 io::ErrorKind::WouldBlock => Event::Connecting,
                 _ if handover::is_exhausted(&error) => Event::Connecting,
                 _ => {
@@ -180,7 +179,7 @@ impl Driver {
     }
 
     /// Sends the message to the next program.
-    pub(super) fn send(&mut self, bytes: Vec<u8>, fds: &[u64]) {
+    pub(super) fn send(&mut self, bytes: Vec<u8>, fds: &[FdId]) {
         self.message.clone_from(&bytes);
         let Some((stream, process)) = self.successor.take() else {
             return self.events.push_back(Event::SendFailed);
@@ -190,7 +189,7 @@ impl Driver {
         let listeners: Vec<_> = sockets.map(|socket| Arc::clone(&socket.listener)).collect();
         let inputs = self.inputs.clone();
         spawn_local(async move {
-            let fds: Vec<_> = listeners.iter().map(|it| it.get_ref().as_fd()).collect();
+            let fds: Vec<_> = listeners.iter().map(|it| it.get_ref().share()).collect();
             let sent = handover::send(&stream, &bytes, &fds, handover::Frame::ToItsEnd).await;
             inputs.give(Input::Sent(sent));
         });

@@ -10,7 +10,7 @@ use crate::machine::{Direct, Known, lock};
 use crate::pid_file::FileId;
 use crate::service::{Handler, Kind, Task};
 use crate::succession::Held;
-use fulltimehen::{Action, Event, Phase, Setting};
+use fulltimehen::{Action, Event, FdId, Phase, Setting};
 use std::collections::HashSet;
 use std::fs;
 use std::io;
@@ -49,16 +49,16 @@ struct Answered {
 }
 
 impl Answered {
-    fn give(&mut self, ok: bool) {
+    fn give(&mut self, answer: Event) {
         if let Some(inputs) = self.inputs.take() {
-            inputs.give(Input::Shaken { connection: self.connection, ok });
+            inputs.give(Input::Shaken(self.connection, answer));
         }
     }
 }
 
 impl Drop for Answered {
     fn drop(&mut self) {
-        self.give(false);
+        self.give(Event::HandshakeFailed { connection: self.connection });
     }
 }
 
@@ -72,8 +72,8 @@ impl Driver {
             Action::Close { fd } => self.close(fd),
             Action::Broadcast => self.broadcast(),
             Action::Settings { connection, settings } => {
-                let ok = self.set(connection, &settings);
-                self.events.push_back(Event::Set { connection, ok });
+                let answer = self.set(connection, &settings);
+                self.events.push_back(answer);
             }
             Action::Handshake { connection } => self.shake(connection),
             Action::Serve { connection } => self.serve(connection),
@@ -123,7 +123,7 @@ impl Driver {
     }
 
     /// A listening socket of the poller, with a number.
-    pub(super) fn keep(&mut self, word: String, listener: Listener) -> io::Result<u64> {
+    pub(super) fn keep(&mut self, word: String, listener: Listener) -> io::Result<FdId> {
         let file = listener.file();
         let listener = accept::polled(listener, &self.setup.handlers)?;
         Ok(self.keep_polled(word, listener, file))
@@ -134,10 +134,10 @@ impl Driver {
         word: String,
         listener: Polled,
         file: Option<(PathBuf, FileId)>,
-    ) -> u64 {
-        let number = self.numbers.take();
-        self.sockets.insert(number, Socket { word, listener, file });
-        number
+    ) -> FdId {
+        let fd = FdId(self.numbers.take());
+        self.sockets.insert(fd, Socket { word, listener, file });
+        fd
     }
 
     fn bind(&mut self, place: Place) {
@@ -161,7 +161,7 @@ impl Driver {
                     self.refusals.insert(place, text);
                 }
                 match is_in_use {
-                    true => Event::InUse { service, endpoint },
+                    true => Event::AddrInUse { service, endpoint },
                     false => Event::BindFailed { service, endpoint },
                 }
             }
@@ -170,7 +170,7 @@ impl Driver {
     }
 
     /// A socket for the endpoint: one that is there already, or a new one.
-    fn socket_for(&mut self, place: Place) -> io::Result<u64> {
+    fn socket_for(&mut self, place: Place) -> io::Result<FdId> {
         let addresses = Rc::clone(&self.setup.addresses);
         let (word, address) = &addresses[&place];
         let is_it = |held: &Held| held.listener.get_ref().is_at(address);
@@ -185,7 +185,7 @@ impl Driver {
         self.keep(word.clone(), listener)
     }
 
-    fn adopt(&mut self, place: Place, fd: u64) {
+    fn adopt(&mut self, place: Place, fd: FdId) {
         let Place { service, endpoint } = place;
         let address = &self.setup.addresses[&place].1;
         let adopted = match self.sockets.get(&fd) {
@@ -211,7 +211,7 @@ impl Driver {
     }
 
     /// The endpoint has its socket.
-    fn hold(&mut self, place: Place, fd: u64) {
+    fn hold(&mut self, place: Place, fd: FdId) {
         self.refusals.remove(&place);
         self.loops.insert(place, (fd, Vec::new()));
     }
@@ -262,7 +262,7 @@ impl Driver {
         }
     }
 
-    fn close(&mut self, fd: u64) {
+    fn close(&mut self, fd: FdId) {
         let places: HashSet<Place> =
             self.loops.iter().filter(|(_, (of, _))| *of == fd).map(|(place, _)| *place).collect();
         self.end_loops(|place| places.contains(place));
@@ -308,11 +308,12 @@ impl Driver {
     }
 
     /// Where the service ends, those that wait at a socket come in: nobody else would have them.
-    fn accept_rest(&mut self, place: Place, fd: u64) {
+    fn accept_rest(&mut self, place: Place, fd: FdId) {
         let (Wanted::Stop, Some(socket)) = (self.wanted, self.sockets.get(&fd)) else {
             return;
         };
         let listener = Arc::clone(&socket.listener);
+        _ = listener.get_ref().unblock_if_shared();
         let room = self.room.of(self.setup.services[place.service as usize].descriptors());
         let mut came = Vec::new();
         while let Some(seat) = room.try_enter()
@@ -323,10 +324,13 @@ impl Driver {
         self.take(Input::Arrived { place, came });
     }
 
-    fn set(&self, connection: u64, settings: &[Setting]) -> bool {
+    /// Applies the settings of a connection, and answers the event that says how that went.
+    fn set(&self, connection: u64, settings: &[Setting]) -> Event {
         match lock(&self.machine).connections.get(&connection) {
-            Some(Known::Waiting { stream, peer, .. }) => stream.set(settings, *peer),
-            _ => false,
+            Some(Known::Waiting { stream, peer, .. }) if stream.set(settings, *peer) => {
+                Event::SettingsApplied { connection }
+            }
+            _ => Event::SettingsFailed { connection },
         }
     }
 
@@ -369,7 +373,7 @@ impl Driver {
 
     fn shake(&mut self, connection: u64) {
         let Some((service, Handler::Shaking(shake))) = self.handler(connection) else {
-            return self.events.push_back(Event::Shaken { connection, ok: true });
+            return self.events.push_back(Event::HandshakeDone { connection });
         };
         let shake = Arc::clone(shake);
         let waiting = lock(&self.machine).connections.remove(&connection);
@@ -386,7 +390,7 @@ impl Driver {
             };
             match timeout(HANDSHAKE, shake(made)).await {
                 Ok(Ok(work)) => {
-                    answer.give(true);
+                    answer.give(Event::HandshakeDone { connection });
                     if goes.await.is_ok() {
                         work.await;
                     }
