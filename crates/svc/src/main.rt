@@ -1,4 +1,4 @@
-//! The program: its words, standard input and standard output, handed to `serve_script`; what was
+//! The program: its words, standard input and standard output, handed to `serve_kept`; what was
 //! refused is explained on standard error.
 #![tactic(auto)]
 
@@ -6,7 +6,7 @@ use std::env;
 use std::io::IsTerminal;
 use std::process::ExitCode;
 use svc_base::{NoMemory, Reading, Status, Writing};
-use svc_main::{KeptTexts, serve_script};
+use svc_main::{KeptTexts, serve_kept};
 use svc_messages::{Ending, ProgressSource, explanation, last_line, more_refusals, warnings};
 use svc_words::{are_text, words};
 
@@ -42,7 +42,7 @@ fn main(rt: HostRuntime) -> ExitCode {
     let mut source = ProgressSource::new(&rt, Reading::new(rt.stdin()), tells);
     let mut sink = Writing::new(rt.stdout());
     let mut kept = KeptTexts::new(rt.alloc());
-    let Status(status) = serve_script(rt.alloc(), &words, &mut source, &mut sink, &mut kept);
+    let Status(status) = serve_kept(rt.alloc(), &words, &mut source, &mut sink, &mut kept);
     let record = kept.text.as_bytes();
     let ending = Ending {
         words: &words,

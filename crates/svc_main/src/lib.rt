@@ -17,5 +17,5 @@ mod words;
 pub use kept::KeptTexts;
 pub use outcome::{RunEnd, StatusLine};
 pub use planning::{PlannedScript, plan_script};
-pub use program::{one_answer, serve_script};
+pub use program::{one_answer, serve_kept, serve_script};
 pub use text_lines::{is_daemon, is_header, is_skipped};

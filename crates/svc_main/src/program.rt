@@ -19,6 +19,7 @@ use crate::kept::{KeptTexts, read_kept};
 use crate::outcome::StatusLine;
 use crate::words::{made_size, read_words};
 use std::alloc::Global;
+use std::mem::drop;
 use std::rc::RcStr;
 use svc_base::{NoMemory, ReadAllError, Sink, Source, Status, write_all};
 use svc_text::{ScriptError, parse};
@@ -74,12 +75,9 @@ fn make_answer<S: Source>(
     }
 }
 
-/// Serves a script: reads it from the source to its end, runs it, and writes the record and a status
-/// line to the sink. With `gen` and a number it serves so many services of the generator, and writes
-/// how many services were started, endpoints bound and descriptors closed. The words are those after
-/// the program's name. What was read and what was to be written is kept, so that how it ended can be
-/// explained.
-pub fn serve_script<S: Source, K: Sink>(
+/// Serves a script as `serve_script` does. What was read and what was to be written is kept beside, so that how
+/// it ended can be explained. Nothing is kept yet.
+pub fn serve_kept<S: Source, K: Sink>(
     alloc: Global,
     words: &[RcStr],
     source: &mut S,
@@ -144,6 +142,64 @@ pub fn serve_script<S: Source, K: Sink>(
         },
         Err(_) => Status(7),
     }
+}
+
+/// Serves a script: reads it from the source to its end, runs it, and writes the record and a status
+/// line to the sink. With `gen` and a number it serves so many services of the generator, and writes
+/// how many services were started, endpoints bound and descriptors closed. The words are those after
+/// the program's name.
+pub fn serve_script<S: Source, K: Sink>(
+    alloc: Global,
+    words: &[RcStr],
+    source: &mut S,
+    sink: &mut K,
+) -> Status
+    // Served, tested, or the parent of the process that serves: what was read, to its end, is a script,
+    // and what was written is the record of its run with the flags, and how it ended. Or the words ask
+    // for the generator, and the counts of its run were written.
+    ensures served { result.0 ≡ 0 → Ran 0 (map rc_str_bytes words.now) (S.left source.old) (S.left source.new) (K.written sink.old) (K.written sink.new)
+        ⊎ Made (map rc_str_bytes words.now) (K.written sink.old) (K.written sink.new) }
+
+    // The generator's events run through, unless memory runs out or the sink fails. It reads nothing.
+    ensures made { (n : ℕ) → made_size (map rc_str_bytes words.now) ≡ Some n → (result.0 ≡ 0) ⊎ ((result.0 ≡ 6) ⊎ (result.0 ≡ 7)) }
+    ensures unread { (n : ℕ) → made_size (map rc_str_bytes words.now) ≡ Some n → source.new ≡ source.old }
+
+    // The parent of a process that isn't ready.
+    ensures parent { result.0 ≡ 1 → Ran 1 (map rc_str_bytes words.now) (S.left source.old) (S.left source.new) (K.written sink.old) (K.written sink.new) }
+
+    // Words that are refused give 2, unless the sink fails or memory runs out, and nothing else does.
+    ensures words_refused { RefusesWords (map rc_str_bytes words.now) → (result.0 ≡ 2) ⊎ ((result.0 ≡ 6) ⊎ (result.0 ≡ 7)) }
+    ensures words { result.0 ≡ 2 → RefusesWords (map rc_str_bytes words.now)
+        × Appends (K.written sink.old) (K.written sink.new) (status_line Words) }
+
+    // The first refused line, or 0 for a text that is too long.
+    ensures refused { result.0 ≡ 3 → TakesWords (map rc_str_bytes words.now)
+        × Writes (K.written sink.old) (K.written sink.new) (λ out. RefusedText (S.left source.old) (S.left source.new) out) }
+
+    // A run that ended otherwise: its configuration is refused, an event didn't fit, the host failed,
+    // the items were used up, or an older server's sockets weren't taken over. All is closed.
+    ensures run_error { result.0 ≡ 4 → Ran 4 (map rc_str_bytes words.now) (S.left source.old) (S.left source.new) (K.written sink.old) (K.written sink.new) }
+
+    ensures read_fault { result.0 ≡ 5 → TakesWords (map rc_str_bytes words.now) × Rose (S.faulted source.old) (S.faulted source.new)
+        × Appends (K.written sink.old) (K.written sink.new) (status_line ReadFault) }
+
+    ensures write_fault { result.0 ≡ 6 → Rose (K.faulted sink.old) (K.faulted sink.new)
+        × WritesFront (map rc_str_bytes words.now) (S.left source.old) (S.left source.new) (S.faulted source.old) (S.faulted source.new)
+        (K.written sink.old) (K.written sink.new) }
+
+    // Where memory ran out, nothing was written.
+    ensures no_memory { result.0 ≡ 7 → K.written sink.new ≡ K.written sink.old }
+    ensures others { IsStatus result.0 }
+
+    // A whole script of events that fit and go through the shutdown gives the status 0, unless memory
+    // runs out or the source or the sink fails.
+    ensures complete { (bytes : List ℕ) (parts : Parts) → S.left source.old ≡ Some bytes → IsWholeScript (map rc_str_bytes words.now) bytes parts
+        → (Rose (S.faulted source.old) (S.faulted source.new) → ⊥) → (Rose (K.faulted sink.old) (K.faulted sink.new) → ⊥) → (result.0 ≡ 0) ⊎ (result.0 ≡ 7) }
+{
+    let mut kept = KeptTexts::new(alloc);
+    let status = serve_kept(alloc, words, source, sink, &mut kept);
+    drop(kept);
+    status
 }
 
 /// What was written tells the record: two records that give one text are equal.

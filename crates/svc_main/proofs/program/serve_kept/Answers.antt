@@ -3,7 +3,7 @@ use Rattle.svc_main.specs.Status.{status_of}
 use Rattle.svc_main.proofs.WholeLemmas.{whole_is_served}
 use Rattle.svc_main.proofs.AnswerLemmas.{served_from, ran_from}
 use Rattle.svc_main.proofs.ScriptAnswerLemmas.{refused_words}
-use Rattle.svc_main.proofs.program.serve_script.Goals as goal
+use Rattle.svc_main.proofs.program.serve_kept.Goals as goal
 
 pub returns-in-Ok-write_all-clause-served : goal.returns-in-Ok-write_all-clause-served
 returns-in-Ok-write_all-clause-served g c = λ e.
