@@ -1,4 +1,4 @@
-use Rattle.std.proofs.Common.{◌≡◌, ◌≤◌, [], List, length, ap, refl, arith}
+use Rattle.std.proofs.Common.{◌≡◌, ◌≤◌, [], length, ap, refl, arith}
 use Rattle.svc_base.specs.Items.{list_of}
 use Rattle.svc_shared.proofs.Recording.{opens}
 use Rattle.svc_shared.proofs.book.Book.new.Goals as goal
