@@ -1,5 +1,6 @@
 pub mod Answering
 pub mod Given
+pub mod HandedOver
 pub mod Letters
 pub mod Lines
 pub mod Offers

@@ -43,6 +43,11 @@ abbrev pub is_begun : Offer → Bool
 is_begun (offers.Begun handover until) = true
 is_begun offer = false
 
+-- a newer server receives, and is offered the sockets
+abbrev pub is_offered : Offer → Bool
+is_offered (offers.Offered handover) = true
+is_offered offer = false
+
 -- the sockets are the newer server's
 abbrev pub has_sent : Offer → Bool
 has_sent offers.Sent = true
