@@ -1,6 +1,5 @@
 pub mod Answering
 pub mod Given
-pub mod HandedOver
 pub mod Letters
 pub mod Lines
 pub mod Offers

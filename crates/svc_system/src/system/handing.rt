@@ -4,7 +4,6 @@ ghost use Rattle.std.specs.Prelude.{◌≡◌, ◌≢◌, ◌<◌, ◌≤◌, No
 ghost use Rattle.svc_record.specs.declared.entry.Entry.TheVariants.{Got};
 ghost use Rattle.svc_record.specs.Descriptors.{numbers_of};
 ghost use Rattle.svc_system.specs.Answering.{AnswersAlone, AnswersConnect, AnswersOnHandover, AnswersReceive, AnswersSend};
-ghost use Rattle.svc_system.specs.HandedOver.{IsHandedOver};
 ghost use Rattle.svc_system.specs.Letters.{IsNoted, Opens, numbers_in};
 ghost use Rattle.svc_base.specs.Items.{list_of};
 ghost use Rattle.svc_system.specs.Offers.{has_sent, is_offered, taken};
@@ -199,7 +198,9 @@ impl<'a, R: Net<Listener = TcpListener, Stream = TcpStream> + Files<File = File>
         ensures few { length (numbers_of (Got result)) ≤ 32 }
         ensures answers { AnswersSend result }
         ensures kept { result ≢ Event.Sent → self.new ≡ self.old }
-        ensures sent { result ≡ Event.Sent → IsHandedOver self.old self.new fds.now }
+        ensures gone { result ≡ Event.Sent → self.new.operators ≡ record self.old.operators { bound = None } }
+        ensures forgotten { result ≡ Event.Sent → self.new.listeners ≡ record self.old.listeners { handed = fds.now } }
+        ensures done { result ≡ Event.Sent → self.new.offer ≡ Offer.Sent }
         ensures alone { is_offered self.old.offer ≡ false → result ≡ Event.SendFailed }
     {
         if fds.len() > MOST_HANDED {
