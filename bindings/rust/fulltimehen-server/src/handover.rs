@@ -243,16 +243,19 @@ pub(crate) async fn receive(
         let mut piece = vec![0; 65_536];
         loop {
             let is_readable = stream.readable();
+            let mut is_quiet = false;
             if bytes.is_empty() || frame == Frame::Length {
                 is_readable.await?;
             } else {
                 match timeout(QUIET, is_readable).await {
                     Ok(answer) => answer?,
-                    Err(_) => return Ok(()),
+                    Err(_) => is_quiet = true,
                 }
             }
-            let take = || sys::receive(stream, &mut piece);
-            match stream.try_io(Interest::READABLE, take) {
+            let mut take = || sys::receive(stream, &mut piece);
+            // Where this program had no processor for a while, there may be more than its runtime knows of.
+            let taken = if is_quiet { take() } else { stream.try_io(Interest::READABLE, take) };
+            match taken {
                 Ok((0, _)) if bytes.is_empty() || frame == Frame::Length => {
                     return Err(io::ErrorKind::UnexpectedEof.into());
                 }
@@ -261,6 +264,7 @@ pub(crate) async fn receive(
                     bytes.extend_from_slice(&piece[..count]);
                     fds.extend(came);
                 }
+                Err(error) if is_passing(&error) && is_quiet => return Ok(()),
                 Err(error) if is_passing(&error) => {}
                 Err(error) => return Err(error),
             }
@@ -365,6 +369,24 @@ mod tests {
             let (got, came) = received.unwrap();
             assert_eq!((got, came.len()), (bytes, fds::MOST_FDS));
         }
+    }
+
+    /// What came while this program had no processor is of the message, too: a sender isn't quiet whose bytes wait.
+    #[tokio::test]
+    async fn a_receiver_that_was_held_up_reads_on() {
+        let (one, other) = UnixStream::pair().unwrap();
+        fds::send(&one, b"127.0.0.1:1 ", &[]).unwrap();
+        let sending = tokio::spawn(async move {
+            sleep(QUIET / 2).await;
+            fds::send(&one, b"127.0.0.1:2", &[]).unwrap();
+            one
+        });
+        let receiving = tokio::spawn(async move { receive(&other, Frame::ToItsEnd).await });
+        sleep(QUIET / 10).await;
+        // Both pauses pass before the runtime looks at either of them.
+        std::thread::sleep(2 * QUIET);
+        assert_eq!(receiving.await.unwrap().unwrap().0, b"127.0.0.1:1 127.0.0.1:2");
+        drop(sending.await.unwrap());
     }
 
     /// A receiver that doesn't read is given up, and holds nobody up.
