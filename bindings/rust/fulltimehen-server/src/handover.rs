@@ -332,7 +332,6 @@ fn decode_version_2(mut rest: &str) -> Option<Vec<String>> {
 mod tests {
     use super::*;
     use nix::sys::socket::{setsockopt, sockopt};
-    use std::env;
     use std::fs::File;
     use std::io::Read;
     use std::os::fd::{AsFd, AsRawFd};
@@ -406,7 +405,8 @@ mod tests {
     /// A socket whose path another one has by now leaves it there.
     #[tokio::test]
     async fn a_socket_that_was_replaced_leaves_the_path() {
-        let folder = env::temp_dir().join(format!("fulltimehen-sock-{}", process::id()));
+        // Temporary files may be in a folder whose path is too long for a socket.
+        let folder = PathBuf::from(format!("/tmp/fulltimehen-sock-{}", process::id()));
         fs::create_dir_all(&folder).unwrap();
         let (path, spare) = (folder.join("sock"), RefCell::new(Spare::none()));
         let first = PrivateSocket::open(&path).unwrap();
