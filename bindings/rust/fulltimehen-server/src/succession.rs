@@ -13,7 +13,7 @@ use crate::inherited;
 use crate::limits::Spare;
 use crate::log::say;
 use crate::notify::Manager;
-use crate::pid_file::{self, FileId, Holder, PidFile, with_ending};
+use crate::pid_file::{self, FileId, Holder, PathLock, PidFile, with_ending};
 use crate::process::Process;
 use fulltimehen::Configuration;
 use std::cell::{Cell, RefCell};
@@ -332,7 +332,7 @@ impl Shared {
             return Ok(());
         };
         let failed = |error| refused(&paths.pid_file, error);
-        let folder = pid_file::lock_folder(&paths.pid_file).map_err(failed)?;
+        let lock = PathLock::take(&paths.pid_file).map_err(failed)?;
         if !takes_over
             && let Holder::Serves(pid) = pid_file::holder(&paths.pid_file).map_err(failed)?
         {
@@ -341,7 +341,7 @@ impl Shared {
         self.give_copies(paths);
         let own = PidFile::put(&paths.pid_file).map_err(failed)?;
         *self.own.borrow_mut() = Some(own);
-        drop(folder);
+        drop(lock);
         Ok(())
     }
 
@@ -377,6 +377,8 @@ impl Shared {
         let message = handover::encode(&words[..most]);
         match handover::send(&stream, &message, &fds[..most], Frame::Length).await {
             Ok(()) => {
+                // Those that are gone cost nothing any more, however often one comes and goes.
+                self.waiting();
                 self.known.borrow_mut().extend(process.clone());
                 self.waiting.borrow_mut().push(Waiting { process, stream });
             }
@@ -445,6 +447,12 @@ impl Shared {
                 Serving::Unknown
             }
         }
+    }
+
+    /// Whether another program serves.
+    pub(crate) fn is_followed(&self) -> bool {
+        let other = |paths: &Paths| matches!(self.server(paths), Serving::Other(_));
+        self.is_succeeded.get() || self.paths.as_ref().is_some_and(other)
     }
 
     /// The program that serves is told to end, too.
