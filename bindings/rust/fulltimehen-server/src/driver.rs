@@ -668,7 +668,8 @@ impl Driver {
     /// The services that were given up, as a status has them.
     fn lacking(&self) -> String {
         let services = self.setup.services.iter().zip(&self.progress);
-        let names = services.filter(|(_, progress)| progress.failed).map(|(it, _)| it.name.as_str());
+        let names =
+            services.filter(|(_, progress)| progress.failed).map(|(it, _)| it.name.as_str());
         let names: Vec<&str> = names.collect();
         if names.is_empty() { String::new() } else { format!(", without {}", names.join(", ")) }
     }

@@ -52,7 +52,8 @@ impl PathLock {
         let end = Instant::now() + PATIENCE;
         loop {
             let mut options = OpenOptions::new();
-            let file = options.write(true).create(true).truncate(false).mode(0o600).open(&beside)?;
+            let file =
+                options.write(true).create(true).truncate(false).mode(0o600).open(&beside)?;
             match file.try_lock() {
                 // Who had it before has removed it: the next one makes another.
                 Ok(()) if FileId::at(&beside) != Some(FileId::of(&file.metadata()?)) => {}

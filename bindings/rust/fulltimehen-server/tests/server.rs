@@ -538,6 +538,36 @@ fn a_silent_peer_and_one_that_never_reads_are_timed_out() {
     running.end();
 }
 
+/// Times that no clock has are as good as none, and the system gets none that it would refuse a socket for.
+#[test]
+fn times_that_are_too_long_or_too_short_are_taken() {
+    let address = free();
+    let there = address.clone();
+    let running = start(20, move |server| {
+        server.tcp_keepalive(Duration::from_nanos(1), Duration::MAX, 0);
+        let patient = listening("patient", |mut connection: Connection| async move {
+            connection.set_idle_timeout(Some(Duration::MAX));
+            echo(connection).await
+        });
+        server.add_service(patient.tcp(&there));
+    });
+    let mut stream = connect(&address);
+    thread::sleep(Duration::from_millis(50));
+    stream.write_all(b"hello").unwrap();
+    stream.shutdown(Shutdown::Write).unwrap();
+    assert_eq!(io::read_to_string(stream).unwrap(), "hello");
+    running.end();
+}
+
+#[test]
+fn a_record_whose_writer_panics_ends_no_run() {
+    let (operator, signals) = mpsc::channel(1);
+    operator.blocking_send(Signal::Terminate).unwrap();
+    let args =
+        RunArgs::default().signals(signals).record(|_| -> io::Sink { panic!("as it is to") });
+    assert_eq!(Server::new(None).unwrap().run(args).unwrap(), Outcome::Served);
+}
+
 #[test]
 fn a_connect_has_a_time_limit() {
     let listener = Socket::new(Domain::IPV4, Type::STREAM, None).unwrap();
