@@ -379,7 +379,10 @@ impl Shared {
             Ok(()) => {
                 // Those that are gone cost nothing any more, however often one comes and goes.
                 self.waiting();
-                self.known.borrow_mut().extend(process.clone());
+                let mut known = self.known.borrow_mut();
+                let is_new = |it: &&Process| known.iter().all(|one| one.number() != it.number());
+                let new = process.as_ref().filter(is_new).cloned();
+                known.extend(new);
                 self.waiting.borrow_mut().push(Waiting { process, stream });
             }
             Err(error) => say!(warn, "a program that waits got no copy: {error}"),
