@@ -475,8 +475,11 @@ impl Shared {
 
     /// Waits until a program listens for the message, and connects to it. Where none does, it starts one, and
     /// the next one after a growing pause.
-    pub(crate) async fn seek(&self, paths: &Paths) -> (UnixStream, Option<Process>) {
-        let mut starter = Starter::new();
+    pub(crate) async fn seek(
+        &self,
+        paths: &Paths,
+        starter: &mut Starter,
+    ) -> (UnixStream, Option<Process>) {
         let mut said = None;
         loop {
             match handover::connect(&paths.upgrade_sock, &self.spare) {
@@ -516,6 +519,8 @@ impl Shared {
             return;
         };
         let (mut to, mut since) = (to, Instant::now());
+        // One that takes the sockets and ends is started again after growing pauses, too.
+        let mut starter = Starter::new();
         loop {
             sleep(LOOK).await;
             self.reap();
@@ -533,13 +538,16 @@ impl Shared {
                     say!(warn, "the program that took over is gone{who}");
                     self.reclaim(&paths, &held);
                     drop(file);
-                    to = None;
+                    (to, starter) = (None, Starter::new());
                 }
                 Serving::Own => {
                     if self.is_on_its_way(to.as_ref(), since) {
                         continue;
                     }
-                    let (stream, process) = self.seek(&paths).await;
+                    if to.take().is_some() && starter.child.is_none() {
+                        starter.fail("took the sockets and has ended");
+                    }
+                    let (stream, process) = self.seek(&paths, &mut starter).await;
                     let (_, fds) = table(&held);
                     match handover::send(&stream, &message, &fds, Frame::ToItsEnd).await {
                         Ok(()) => (to, since) = (process, Instant::now()),
@@ -617,7 +625,7 @@ enum Serving {
 }
 
 /// Starts the next program, again and again.
-struct Starter {
+pub(crate) struct Starter {
     /// The process that was started and hasn't ended.
     child: Option<u32>,
     next: Instant,
@@ -625,7 +633,7 @@ struct Starter {
 }
 
 impl Starter {
-    fn new() -> Starter {
+    pub(crate) fn new() -> Starter {
         Starter { child: None, next: Instant::now() + OTHERS_FIRST, pause: PAUSES[0] }
     }
 

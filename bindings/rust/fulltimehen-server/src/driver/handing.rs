@@ -5,7 +5,7 @@ use crate::handover::{self, PrivateSocket};
 use crate::log::say;
 use crate::pid_file::PathLock;
 use crate::process::Process;
-use crate::succession::Held;
+use crate::succession::{Held, Starter};
 use crate::takeover::{self, Ended};
 use fulltimehen::{Event, FdId, Signal};
 use nix::time::{ClockId, clock_gettime};
@@ -103,7 +103,7 @@ impl Driver {
         }
         self.wanted = Wanted::Upgrade;
         let task = async move {
-            let (stream, process) = shared.seek(&paths).await;
+            let (stream, process) = shared.seek(&paths, &mut Starter::new()).await;
             shared.inputs.give(Input::Successor(stream, process));
         };
         self.tasks.push(spawn_local(task));
