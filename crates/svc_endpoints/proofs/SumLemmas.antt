@@ -1,10 +1,9 @@
 -- The sums of addresses that several endpoints have are found, and tell that another one has none of them.
-use Rattle.std.proofs.Common.{ℕ, suc, Bool, true, false, ◌&&◌, ◌==◌, inl, inr, ◌⊎◌, List, [], ◌∷◌, bytes_eq, ◌≡◌, refl, ap, sym, ◌∙◌, subst, arith, ◌+◌, ◌<◌, length, Some, get_or}
-use Rattle.std.proofs.lemmas.Bool.{cases_Bool, cases_eq, cases_lt, eq-eqb, or_cases, or_left, or_right}
+use Rattle.std.proofs.Common.{ℕ, suc, Bool, true, false, ◌&&◌, ◌==◌, inl, inr, ◌⊎◌, List, [], ◌∷◌, bytes_eq, ◌≡◌, ◌≢◌, refl, ap, sym, ◌∙◌, subst, arith, ◌+◌, ◌<◌, length, Some, get_or}
+use Rattle.std.proofs.lemmas.Bool.{cases_Bool, cases_lt, eq-eqb, or_cases, or_left, or_right}
 use Rattle.svc_base.specs.NumberSets.{is_in, put_number}
 use Rattle.svc_base.proofs.Logic.{clash}
 use Rattle.svc_base.proofs.NumberSetLemmas.{any-put}
-use Rattle.svc_graph.specs.declared.plan.EndpointPlan.{EndpointPlan}
 use Rattle.svc_record.specs.declared.plan.Plan.{Plan}
 use Rattle.svc_record.specs.Plans.{service_count, endpoints, address, same_address, is_among, any_with}
 use Rattle.svc_endpoints.specs.Sums.{sum_of, is_listed, claims, HasAddress, AreShared, IsBefore, AreNoted, Grows}
@@ -30,20 +29,6 @@ find_text (x ∷ xs) a h = elim (or_cases (bytes_eq x a) (is_among a xs) h) [
 -- what holds of each place's text holds of each text
 pub each-text : (xs : List (List ℕ)) (P : List ℕ → Type 0) → ((k : ℕ) → k < length xs → P (get_or xs k [])) → (a : List ℕ) → is_among a xs ≡ true → P a
 each-text xs P each a h = let at = find_text xs a h in subst P at.2 (each at.0 at.1)
-
--- of the first k texts the sum of each is there that no endpoint has
-abbrev pub AreUnlistedIn : List EndpointPlan → List (List ℕ) → ℕ → List ℕ → Type 0
-AreUnlistedIn list texts k shared = (j : ℕ) → j < k → is_listed list (get_or texts j []) ≡ false → is_in (sum_of (get_or texts j [])) shared ≡ true
-
--- one text more
-pub more-unlisted : (list : List EndpointPlan) (texts : List (List ℕ)) (k : ℕ) (a before after : List ℕ) → a ≡ get_or texts k []
-    → (is_listed list a ≡ false → is_in (sum_of a) after ≡ true) → Grows before after → AreUnlistedIn list texts k before → AreUnlistedIn list texts (k + 1) after
-more-unlisted list texts k a before after is here more was j lt off = elim (cases_eq j k) [
-  | inl e ↦
-      let there : get_or texts j [] ≡ a = ap (λ i. get_or texts i []) e ∙ sym is in
-      subst (λ b. is_in (sum_of b) after ≡ true) (sym there) (here (subst (λ b. is_listed list b ≡ false) there off))
-  | inr ne ↦ more (sum_of (get_or texts j [])) (was j (omega arith) off)
-]
 
 -- which stand before the next one, or before the next service's first
 before_next : (t k s i : ℕ) → IsBefore t k s (i + 1) → IsBefore t k s i ⊎ ((t ≡ s) × (k ≡ i))
