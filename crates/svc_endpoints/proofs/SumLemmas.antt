@@ -6,7 +6,7 @@ use Rattle.svc_base.proofs.Logic.{clash}
 use Rattle.svc_base.proofs.NumberSetLemmas.{any-put}
 use Rattle.svc_record.specs.declared.plan.Plan.{Plan}
 use Rattle.svc_record.specs.Plans.{service_count, endpoints, address, same_address, is_among, any_with}
-use Rattle.svc_endpoints.specs.Sums.{sum_of, is_listed, claims, HasAddress, AreShared, IsBefore, AreNoted, Grows}
+use Rattle.svc_endpoints.specs.Sums.{sum_of, claims, HasAddress, AreShared, IsBefore, AreNoted, Grows}
 use Rattle.svc_endpoints.specs.Rests.{IsAlone}
 use Rattle.svc_endpoints.proofs.LiveLemmas.{same_eq}
 use Rattle.svc_endpoints.proofs.RangeLemmas.{none0}
@@ -119,7 +119,9 @@ module _ (p : Plan) where
   alone-is shared are s i a one alone t k inside within ne = elim (cases_Bool (same_address (address p s i) (address p t k))) [
     | inl same ↦
         let named : address p t k ≡ Some a = sym (same_eq (address p s i) (address p t k) same) ∙ one.named in
-        absurd (clash (is_in (sum_of a) shared) (are.apart t k s i a (λ e. absurd (ne e)) (record { inside = inside; within = within; named = named }) one) alone)
+        absurd
+        (clash (is_in (sum_of a) shared)
+        (are.apart t k s i a (λ e. absurd (ne e)) (record { inside = inside; within = within; named = named }) one) alone)
     | inr n ↦ n
   ]
 
