@@ -7,7 +7,7 @@ use std::alloc::Global;
 use std::fmt::Write;
 use svc_base::{NoMemory, Sink, write_all};
 use svc_record::Entry;
-use svc_system::LogState;
+use svc_system::{LogState, UpgradeAnswer};
 
 /// So many bytes of text are held back at most, before the line that makes them more.
 const HELD: usize = 65536;
@@ -70,5 +70,10 @@ impl<K: Sink + Drop> Recorder for Log<K> {
         } else {
             LogState::Cut
         }
+    }
+
+    /// A log begins no server.
+    fn upgrade(&mut self, _file: &str) -> UpgradeAnswer {
+        UpgradeAnswer::Unsupported
     }
 }

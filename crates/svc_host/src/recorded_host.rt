@@ -1,6 +1,6 @@
 //! A host that tells the account of a run, and keeps none of it, over an inner host, which does the rest.
 
-ghost use Rattle.std.specs.Prelude.{◌≡◌, [], map, Some};
+ghost use Rattle.std.specs.Prelude.{◌≡◌, ◌≤◌, [], map, Some};
 ghost use Rattle.svc_server.specs.Hosts.{no_account};
 ghost use Rattle.svc_server.specs.ScriptHosts.{counts_with, handed_with};
 
@@ -67,6 +67,19 @@ impl<H: Waiting, K: Recorder, B: ServiceWithDependents> RecordedHost<H, K, B> {
         let _ = self.recorder.settle();
     }
 
+    /// Begins what an operator asks for, if one does.
+    fn upgrade(&mut self)
+        ensures room { H.spare self.old.inner ≤ H.spare self.new.inner }
+        ensures ahead { H.ahead self.new.inner ≡ H.ahead self.old.inner }
+        ensures made { H.made_of self.new.inner ≡ H.made_of self.old.inner }
+        ensures rest { self.new ≡ record self.old { inner = self.new.inner; recorder = self.new.recorder } }
+    {
+        if let Some(file) = self.inner.take_upgrade() {
+            let answer = self.recorder.upgrade(file.as_str());
+            self.inner.answer_upgrade(answer);
+        }
+    }
+
     /// The inner host.
     pub fn inner(&self) -> &H
         ensures { result.now ≡ self.now.inner }
@@ -121,6 +134,7 @@ impl<H: Waiting, K: Recorder, B: ServiceWithDependents> Host for RecordedHost<H,
             let log = self.recorder.settle();
             self.inner.tell_log(log);
         }
+        self.upgrade();
         match self.inner.give() {
             Some(Item::Event(event)) => {
                 self.account.take(event, &mut self.recorder);

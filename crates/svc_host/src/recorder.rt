@@ -1,7 +1,7 @@
 //! What is shown a record that grows.
 
 use svc_record::Entry;
-use svc_system::LogState;
+use svc_system::{LogState, UpgradeAnswer};
 
 /// What is shown a record that grows, each entry once, as it comes.
 pub trait Recorder: Drop {
@@ -14,4 +14,7 @@ pub trait Recorder: Drop {
     /// Nothing comes until something happens: what it holds back, it lets go. Answers what became of all
     /// that it was shown.
     fn settle(&mut self) -> LogState;
+
+    /// An operator asks to be upgraded to this file. Answers what was begun.
+    fn upgrade(&mut self, file: &str) -> UpgradeAnswer;
 }

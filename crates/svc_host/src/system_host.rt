@@ -9,10 +9,10 @@ use std::fs::File;
 use std::net::{Net, TcpListener, TcpStream};
 use std::rt::Files;
 use std::time::Clock;
-use svc_base::NoMemory;
+use svc_base::{NoMemory, Text};
 use svc_record::{Action, Item};
 use svc_server::InnerHost;
-use svc_system::{LogState, System};
+use svc_system::{LogState, System, UpgradeAnswer};
 
 /// A host over the operating system, without its account.
 #[derive(Drop)]
@@ -98,5 +98,13 @@ impl<'a, R: Net<Listener = TcpListener, Stream = TcpStream> + Files<File = File>
 
     fn tell_log(&mut self, log: LogState) {
         self.system.tell_log(log);
+    }
+
+    fn take_upgrade(&mut self) -> Option<Text> {
+        self.system.take_upgrade()
+    }
+
+    fn answer_upgrade(&mut self, answer: UpgradeAnswer) {
+        self.system.answer_upgrade(answer);
     }
 }

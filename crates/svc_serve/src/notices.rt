@@ -7,7 +7,7 @@ use svc_base::Writing;
 use svc_host::{Log, Recorder};
 use svc_job_host::ServedJobs;
 use svc_record::{Action, Entry, Event, Plan};
-use svc_system::LogState;
+use svc_system::{LogState, UpgradeAnswer};
 
 /// The log, if there is one, the jobs, and standard error, where services and addresses stand by their names.
 #[derive(Drop)]
@@ -147,5 +147,9 @@ impl<'a> Recorder for Notices<'a> {
             self.say_cut();
         }
         state
+    }
+
+    fn upgrade(&mut self, _file: &str) -> UpgradeAnswer {
+        UpgradeAnswer::Unsupported
     }
 }

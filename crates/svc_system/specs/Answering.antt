@@ -37,9 +37,46 @@ AnswersOnEndpoint (actions.Bind s i) answer = IsSomeAnd answer (AnswersBind s i)
 AnswersOnEndpoint (actions.Adopt s i fd) answer = IsSomeAnd answer (AnswersAdopt s i)
 AnswersOnEndpoint action answer = AnswersOnConnection action answer
 
+-- what a try to receive gives: a message, that none is there yet, or that it failed
+abbrev pub AnswersReceive : Event → Type 0
+AnswersReceive (events.Received bytes fds) = Unit {0}
+AnswersReceive events.NoSenderYet = Unit {0}
+AnswersReceive events.ReceiveFailed = Unit {0}
+AnswersReceive event = ⊥
+
+-- what a try to connect gives
+abbrev pub AnswersConnect : Event → Type 0
+AnswersConnect events.Connected = Unit {0}
+AnswersConnect events.NotThere = Unit {0}
+AnswersConnect events.StillConnecting = Unit {0}
+AnswersConnect events.ConnectFailed = Unit {0}
+AnswersConnect event = ⊥
+
+-- what a send gives
+abbrev pub AnswersSend : Event → Type 0
+AnswersSend events.Sent = Unit {0}
+AnswersSend events.SendBusy = Unit {0}
+AnswersSend events.SendFailed = Unit {0}
+AnswersSend event = ⊥
+
+-- what is answered to an action of a handover, and to no other one
+abbrev pub AnswersOnHandover : Action → Option Event → Type 0
+AnswersOnHandover actions.TryReceive answer = IsSomeAnd answer AnswersReceive
+AnswersOnHandover actions.Connect answer = IsSomeAnd answer AnswersConnect
+AnswersOnHandover (actions.Send bytes fds) answer = IsSomeAnd answer AnswersSend
+AnswersOnHandover action answer = answer ≡ None
+
+-- what is answered where no older server is known, or no newer one: a failure
+abbrev pub AnswersAlone : Action → Option Event → Type 0
+AnswersAlone actions.TryReceive answer = answer ≡ Some events.ReceiveFailed
+AnswersAlone actions.Connect answer = answer ≡ Some events.ConnectFailed
+AnswersAlone (actions.Send bytes fds) answer = answer ≡ Some events.SendFailed
+AnswersAlone action answer = Unit {0}
+
 -- what is answered to any action
 abbrev pub Answers : Action → Option Event → Type 0
-Answers actions.TryReceive answer = answer ≡ Some events.ReceiveFailed
-Answers actions.Connect answer = answer ≡ Some events.ConnectFailed
-Answers (actions.Send bytes fds) answer = answer ≡ Some events.SendFailed
+Answers actions.OpenReceiver answer = answer ≡ None
+Answers actions.TryReceive answer = AnswersOnHandover actions.TryReceive answer
+Answers actions.Connect answer = AnswersOnHandover actions.Connect answer
+Answers (actions.Send bytes fds) answer = AnswersOnHandover (actions.Send bytes fds) answer
 Answers action answer = AnswersOnEndpoint action answer

@@ -1,6 +1,12 @@
 //! Listening sockets, by the numbers that a server's record knows them by.
 
+ghost use Rattle.std.specs.Prelude.{◌≡◌, ◌==◌, ◌++◌, ◌∷◌, [], IfOk, OnErr};
+ghost use Rattle.std.specs.List.{list_any};
+ghost use Rattle.std.specs.Option.{option_copied};
+
 use crate::address::{Address, is_freed};
+use crate::readiness::Readiness;
+use crate::tokens::Ready;
 use std::alloc::Global;
 use std::io::ErrorKind;
 use std::mem::drop;
@@ -8,8 +14,9 @@ use std::net::{Net, SocketAddr, TcpListener, TcpStream};
 use std::os::fd::{AsRawFd, OwnedFd, RawFd};
 use std::os::unix::net::{UnixListener, UnixStream};
 use std::rt::Files;
+use std::sync::Arc;
 use std::{fs, io};
-use svc_base::{NoMemory, Text};
+use svc_base::{Items, NoMemory, Text};
 use svc_socket::{Peer, PeerAddr};
 
 /// The first number: those of standard input, output and error are never given.
@@ -162,13 +169,63 @@ impl Socket {
     }
 }
 
+/// A socket that listens, with the path that goes with it.
+#[derive(Drop)]
+pub(crate) struct Bound {
+    pub socket: Arc<Socket>,
+    pub path: Option<Text>,
+}
+
+impl Bound {
+    ghost use Rattle.svc_system.specs.Letters.{IsHandle};
+
+    /// Keeps a socket with its path. Without memory the socket is closed.
+    pub(crate) fn new(alloc: Global, socket: Socket, path: Option<Text>) -> Result<Self, NoMemory> {
+        match Arc::new(alloc, socket) {
+            Ok(socket) => Ok(Bound { socket, path }),
+            Err(_) => {
+                drop(path);
+                Err(NoMemory)
+            }
+        }
+    }
+
+    /// A handle of it: the same socket, with the same path. It takes no descriptor.
+    pub(crate) fn share(&self, alloc: Global) -> Result<Self, NoMemory>
+        ensures { IfOk result (IsHandle self.now) }
+    {
+        let path = match &self.path {
+            Some(path) => Some(path.copy(alloc)?),
+            None => None,
+        };
+        match Arc::try_clone(&self.socket) {
+            Ok(socket) => Ok(Bound { socket, path }),
+            Err(_) => {
+                drop(path);
+                Err(NoMemory)
+            }
+        }
+    }
+
+    /// The system's number.
+    pub(crate) fn raw(&self) -> RawFd {
+        self.socket.raw()
+    }
+
+    /// Removes the path that goes with it.
+    pub(crate) fn remove_path<R: Files>(&self, rt: &R) {
+        if let Some(path) = &self.path {
+            let _ = fs::remove_file(rt, path.as_str());
+        }
+    }
+}
+
 /// A listening socket with its number.
 #[derive(Drop)]
-struct Listener {
+pub(crate) struct Listener {
     number: u64,
-    socket: Socket,
-    /// The path that goes with it.
-    path: Option<Text>,
+    bound: Bound,
+    is_watched: bool,
 }
 
 /// The open ones. A number is given once.
@@ -176,14 +233,29 @@ struct Listener {
 pub(crate) struct Listeners {
     rows: Vec<Listener>,
     next: u64,
+    /// The numbers of those that were handed over, whose paths are a newer server's.
+    handed: Items<u64>,
+}
+
+impl Listener {
+    /// Watches it, once. Answers whether that could be had.
+    fn watch(&mut self, readiness: &Readiness) -> bool {
+        if !self.is_watched {
+            self.is_watched = readiness.watch(self.bound.raw(), Ready::Listener(self.number));
+        }
+        self.is_watched
+    }
 }
 
 impl Listeners {
+    ghost use Rattle.svc_system.specs.Letters.{bound_in, numbers_in};
+
     /// None is open.
     pub(crate) fn new(alloc: Global) -> Self {
         Listeners {
             rows: Vec::new(alloc),
             next: FIRST,
+            handed: Items::new(alloc),
         }
     }
 
@@ -193,35 +265,80 @@ impl Listeners {
     }
 
     /// Adds one, and answers its number.
-    pub(crate) fn add(&mut self, socket: Socket, path: Option<Text>) -> Result<u64, NoMemory> {
+    pub(crate) fn add(&mut self, bound: Bound) -> Result<u64, NoMemory>
+        ensures added { IfOk result (λ number. numbers_in self.new ≡ numbers_in self.old ++ number ∷ []) }
+        ensures full { OnErr result (numbers_in self.new ≡ numbers_in self.old) }
+    {
         let number = self.next;
         self.rows.push(Listener {
             number,
-            socket,
-            path,
+            bound,
+            is_watched: false,
         })?;
         self.next = number.saturating_add(1);
         Ok(number)
     }
 
+    /// Makes room for so many more.
+    pub(crate) fn reserve(&mut self, n: usize) -> Result<(), NoMemory>
+        ensures { numbers_in self.new ≡ numbers_in self.old }
+    {
+        self.rows.reserve(n)?;
+        Ok(())
+    }
+
     /// The socket with this number, if it is open.
-    pub(crate) fn get(&self, number: u64) -> Option<&Socket> {
+    pub(crate) fn get(&self, number: u64) -> Option<&Bound>
+        ensures { option_copied result ≡ bound_in self.now number }
+    {
         match self.rows.iter().find(|listener| listener.number == number) {
-            Some(listener) => Some(&listener.socket),
+            Some(listener) => Some(&listener.bound),
             None => None,
         }
     }
 
-    /// Closes it, and removes the path that goes with it.
-    pub(crate) fn close<R: Files>(&mut self, rt: &R, number: u64) {
+    /// Watches the socket with this number, once. Answers whether that could be had.
+    pub(crate) fn watch(&mut self, readiness: &Readiness, number: u64) -> bool {
+        let Some(at) = self
+            .rows
+            .iter()
+            .position(|listener| listener.number == number)
+        else {
+            return false;
+        };
+        match self.rows.get_mut(at) {
+            Some(row) => row.watch(readiness),
+            None => false,
+        }
+    }
+
+    /// These were handed over: their paths are a newer server's from now on.
+    pub(crate) fn hand_over(&mut self, handed: Items<u64>)
+        ensures { self.new ≡ record self.old { handed = handed } }
+    {
+        self.handed = handed;
+    }
+
+    /// It was handed over.
+    fn is_handed(&self, number: u64) -> bool
+        ensures { result ≡ list_any (λ other. other == number) self.now.handed }
+    {
+        self.handed.as_slice().contains(&number)
+    }
+
+    /// Closes it, and removes the path that goes with it, unless that is a newer server's.
+    pub(crate) fn close<R: Files>(&mut self, rt: &R, readiness: &Readiness, number: u64) {
         if let Some(at) = self
             .rows
             .iter()
             .position(|listener| listener.number == number)
         {
             let listener = self.rows.remove(at);
-            if let Some(path) = &listener.path {
-                let _ = fs::remove_file(rt, path.as_str());
+            if listener.is_watched {
+                readiness.forget(listener.bound.raw());
+            }
+            if !self.is_handed(number) {
+                listener.bound.remove_path(rt);
             }
         }
     }

@@ -1,11 +1,14 @@
-//! What an operator says: a word on a line.
+//! What an operator says: a word on a line, and the path of a file behind one of them.
 
 ghost use Rattle.std.specs.Prelude.{◌≡◌, ◌≢◌, ◌≤◌};
 ghost use Rattle.std.specs.Str.{bytes_eq};
-ghost use Rattle.svc_system.specs.Orders.{order_of};
+ghost use Rattle.svc_system.specs.Orders.{asks_upgrade, order_of};
 
-/// The most bytes of a line that are kept. No order is longer.
-pub const LONGEST: usize = 16;
+/// The most bytes of a line that are kept: the word `upgrade`, a space, and the longest path that a system takes.
+pub const LONGEST: usize = 4104;
+
+/// The bytes of a line before the path of an upgrade.
+const BEFORE_PATH: usize = 8;
 
 /// What an operator asks for.
 #[derive(Clone, Copy, PartialEq, Eq, Debug)]
@@ -16,6 +19,8 @@ pub enum Order {
     Fast,
     /// That the server ends after its grace period.
     Terminate,
+    /// That the server hands its sockets to a newer one of the file whose path stands behind the word.
+    Upgrade,
 }
 
 /// The line is this word.
@@ -25,7 +30,15 @@ fn is_word(line: &[u8], word: &[u8]) -> bool
     line == word
 }
 
-/// What a line without its line feed asks for, if it is the word of an order and nothing else.
+/// The line is the word `upgrade`, one space, and a path.
+fn asks_upgrade(line: &[u8]) -> bool
+    ensures { result ≡ asks_upgrade line.now }
+{
+    line.len() > BEFORE_PATH && is_word(&line[..BEFORE_PATH], b"upgrade ")
+}
+
+/// What a line without its line feed asks for, if it is the word of an order and nothing else, or `upgrade` with a path
+/// behind one space.
 #[tactic(auto, unfolding(crate::specs::Orders::order_of))]
 pub fn order_of(line: &[u8]) -> Option<Order>
     ensures { result ≡ order_of line.now }
@@ -36,18 +49,24 @@ pub fn order_of(line: &[u8]) -> Option<Order>
         Some(Order::Fast)
     } else if is_word(line, b"terminate") {
         Some(Order::Terminate)
+    } else if asks_upgrade(line) {
+        Some(Order::Upgrade)
     } else {
         None
     }
 }
 
-/// A line of which not all has come yet. Of one that is too long for an order only that is kept.
+/// A line of which not all has come yet, with the last one that was whole until more comes. Of one that is too long
+/// for an order only that is kept.
 #[derive(Drop)]
 pub struct OrderLine {
     bytes: [u8; LONGEST],
     count: usize,
     is_long: bool,
-    ghost within: { count ≤ 16 },
+    /// The length of the last whole line.
+    said: usize,
+    ghost within: { count ≤ 4104 },
+    ghost whole: { said ≤ 4104 },
 }
 
 /// What a byte makes of a line.
@@ -62,7 +81,7 @@ pub enum LineStep {
 }
 
 impl OrderLine {
-    ghost use Rattle.svc_system.specs.Lines.{known, step_of};
+    ghost use Rattle.svc_system.specs.Lines.{known, path_in, step_of};
 
     /// Nothing came yet.
     pub fn new() -> Self
@@ -72,6 +91,7 @@ impl OrderLine {
             bytes: [0u8; LONGEST],
             count: 0,
             is_long: false,
+            said: 0,
         }
     }
 
@@ -99,16 +119,31 @@ impl OrderLine {
     pub fn take(&mut self, byte: u8) -> LineStep
         ensures on { byte ≢ 10 → result ≡ LineStep.On }
         ensures whole { byte ≡ 10 → result ≡ step_of (known self.old) }
+        ensures next { byte ≡ 10 → self.new.count ≡ 0 }
+        ensures said { byte ≡ 10 → self.new.said ≡ self.old.count }
+        ensures kept { byte ≡ 10 → self.new.bytes ≡ self.old.bytes }
     {
         if byte != b'\n' {
             self.add(byte);
             return LineStep::On;
         }
         let order = self.order();
-        *self = OrderLine::new();
+        self.said = self.count;
+        self.count = 0;
+        self.is_long = false;
         match order {
             Some(order) => LineStep::Order(order),
             None => LineStep::Unknown,
         }
+    }
+
+    /// The path of the last whole line, where that asked for an upgrade and nothing came behind it.
+    pub fn path(&self) -> &[u8]
+        ensures { result.now ≡ path_in self.now }
+    {
+        if self.said < BEFORE_PATH {
+            return &[];
+        }
+        &self.bytes[BEFORE_PATH..self.said]
     }
 }

@@ -51,6 +51,12 @@ impl Readiness {
             .is_ok()
     }
 
+    /// Watches a socket no more.
+    pub(crate) fn forget(&self, fd: RawFd) {
+        let mut source = SourceFd(&fd);
+        let _ = self.poll.registry().deregister(&mut source);
+    }
+
     /// It has a turn once more, at the end of the line.
     pub(crate) fn again(&mut self, ready: Ready) -> Result<(), NoMemory> {
         match self.line.push_back(ready.token()) {

@@ -4,13 +4,18 @@
 ghost use Rattle.std.specs.Prelude.{◌≡◌, ◌≤◌, true, false, length, None, IfOk, IfSome};
 ghost use Rattle.svc_record.specs.declared.entry.Entry.TheVariants.{Got};
 ghost use Rattle.svc_record.specs.Descriptors.{numbers_of};
-ghost use Rattle.svc_system.specs.Answering.{Answers, AnswersAdopt, AnswersBind, AnswersOnConnection, AnswersOnEndpoint};
+ghost use Rattle.svc_system.specs.Offers.{is_offered};
+ghost use Rattle.svc_system.specs.Answering.{Answers, AnswersAlone, AnswersAdopt, AnswersBind, AnswersOnConnection, AnswersOnEndpoint};
 ghost use Rattle.svc_system.specs.Given.{GivesFew, GivesFewItem};
+
+mod handing;
 
 use crate::address::{Address, ControlAddress};
 use crate::connections::{Connections, Turn};
 use crate::endpoints::Endpoints;
-use crate::listeners::{BindRefused, Came, Listeners, Socket};
+use crate::handover::Taking;
+use crate::listeners::{BindRefused, Bound, Came, Listeners, Socket};
+use crate::offer::Offer;
 use crate::operators::{Admitted, ControlRefused, Operators};
 use crate::readiness::Readiness;
 use crate::report::{LogState, Report, SocketCounts};
@@ -18,6 +23,7 @@ use crate::times::{Times, sooner};
 use crate::tokens::Ready;
 use std::alloc::Global;
 use std::fs::File;
+use std::mem;
 use std::mem::drop;
 use std::net::{Net, TcpListener, TcpStream};
 use std::rt::Files;
@@ -114,10 +120,29 @@ pub struct System<
     has_ended: bool,
     /// Memory was refused for what is ready, or the system can't be asked.
     has_failed: bool,
+    /// The older server whose sockets are taken over, until they came.
+    taking: Option<Taking>,
+    /// How far an upgrade is.
+    offer: Offer,
+    /// An operator asked for an upgrade, and no moment was told since.
+    is_asked: bool,
+}
+
+/// What a server has of the system before its tables.
+#[derive(Drop)]
+struct Basis {
+    times: Times,
+    operators: Operators,
+    readiness: Readiness,
+    taking: Option<Taking>,
 }
 
 /// What watches sockets, with the operators' socket in it.
-fn watched<R: Net>(rt: &R, alloc: Global, operators: &Operators) -> Result<Readiness, OpenRefused> {
+fn watched<R: Net>(
+    rt: &R,
+    alloc: Global,
+    operators: &mut Operators,
+) -> Result<Readiness, OpenRefused> {
     match Readiness::open(rt, alloc) {
         Ok(readiness) => {
             if operators.watch(&readiness) {
@@ -150,10 +175,15 @@ fn bind<R: Net<Listener = TcpListener, Stream = TcpStream> + Files>(
         return Err(BindRefused::Failed);
     };
     match Socket::bind(rt, address) {
-        Ok(socket) => match listeners.add(socket, path) {
-            Ok(number) => Ok(number),
-            Err(NoMemory) => Err(BindRefused::Failed),
-        },
+        Ok(socket) => {
+            let Ok(bound) = Bound::new(alloc, socket, path) else {
+                return Err(BindRefused::Failed);
+            };
+            match listeners.add(bound) {
+                Ok(number) => Ok(number),
+                Err(NoMemory) => Err(BindRefused::Failed),
+            }
+        }
         Err(refused) => {
             drop(path);
             Err(refused)
@@ -167,8 +197,8 @@ fn listened<R: Net<Listener = TcpListener, Stream = TcpStream> + Files<File = Fi
     alloc: Global,
     control: ControlAddress,
 ) -> Result<(Operators, Readiness), OpenRefused> {
-    let operators = Operators::open(rt, alloc, control)?;
-    match watched(rt, alloc, &operators) {
+    let mut operators = Operators::open(rt, alloc, control)?;
+    match watched(rt, alloc, &mut operators) {
         Ok(readiness) => Ok((operators, readiness)),
         Err(refused) => {
             operators.close(rt);
@@ -195,6 +225,74 @@ fn tables<R: Net>(
     }
 }
 
+/// What a server has of the system whose control socket isn't there yet.
+fn unwatched<R: Net<Listener = TcpListener, Stream = TcpStream> + Files<File = File> + Clock>(
+    rt: &R,
+    alloc: Global,
+) -> Result<(Times, Operators, Readiness), OpenRefused> {
+    let Ok(times) = Times::start(rt) else {
+        return Err(OpenRefused::Clock);
+    };
+    let operators = Operators::absent(rt, alloc)?;
+    match Readiness::open(rt, alloc) {
+        Ok(readiness) => Ok((times, operators, readiness)),
+        Err(_) => {
+            drop(operators);
+            Err(OpenRefused::Readiness)
+        }
+    }
+}
+
+/// The system's side of a server with this plan over this basis. Nothing was told yet.
+fn with_tables<'a, R: Net<Listener = TcpListener, Stream = TcpStream> + Files<File = File> + Clock>(
+    rt: &'a R,
+    alloc: Global,
+    plan: &Plan,
+    works: &[WorkLine],
+    basis: Basis,
+) -> Result<System<'a, R>, OpenRefused>
+    ensures goes_on { IfOk result (λ system. system.has_ended ≡ false) }
+    ensures serves { IfOk result (λ system. system.is_forsaken ≡ false) }
+{
+    match tables(rt, alloc, plan, works) {
+        Ok((endpoints, connections)) => {
+            let Basis {
+                times,
+                operators,
+                readiness,
+                taking,
+            } = basis;
+            Ok(System {
+                rt,
+                alloc,
+                readiness,
+                times,
+                endpoints,
+                listeners: Listeners::new(alloc),
+                connections,
+                operators,
+                phase: ExecutionPhase::Setup,
+                signal: None,
+                found: None,
+                failed_connects: 0,
+                log: LogState::Absent,
+                is_draining: false,
+                is_forsaken: false,
+                has_ended: false,
+                has_failed: false,
+                taking,
+                offer: Offer::Idle,
+                is_asked: false,
+            })
+        }
+        Err(NoMemory) => {
+            basis.operators.close(rt);
+            drop(basis);
+            Err(OpenRefused::NoMemory)
+        }
+    }
+}
+
 impl<'a, R: Net<Listener = TcpListener, Stream = TcpStream> + Files<File = File> + Clock> System<
     'a,
     R,
@@ -217,33 +315,18 @@ impl<'a, R: Net<Listener = TcpListener, Stream = TcpStream> + Files<File = File>
             return Err(OpenRefused::Clock);
         };
         let (operators, readiness) = listened(rt, alloc, control)?;
-        match tables(rt, alloc, plan, works) {
-            Ok((endpoints, connections)) => Ok(System {
-                rt,
-                alloc,
-                readiness,
+        with_tables(
+            rt,
+            alloc,
+            plan,
+            works,
+            Basis {
                 times,
-                endpoints,
-                listeners: Listeners::new(alloc),
-                connections,
                 operators,
-                phase: ExecutionPhase::Setup,
-                signal: None,
-                found: None,
-                failed_connects: 0,
-                log: LogState::Absent,
-                is_draining: false,
-                is_forsaken: false,
-                has_ended: false,
-                has_failed: false,
-            }),
-            Err(NoMemory) => {
-                operators.close(rt);
-                drop(operators);
-                drop(readiness);
-                Err(OpenRefused::NoMemory)
-            }
-        }
+                readiness,
+                taking: None,
+            },
+        )
     }
 
     /// Every service was given up, so the system itself asked the server to end.
@@ -259,7 +342,10 @@ impl<'a, R: Net<Listener = TcpListener, Stream = TcpStream> + Files<File = File>
     }
 
     /// It has its turn at once.
-    fn wake(&mut self, ready: Ready) {
+    fn wake(&mut self, ready: Ready)
+        ensures offer { self.new.offer ≡ self.old.offer }
+        ensures listeners { self.new.listeners ≡ self.old.listeners }
+    {
         if self.readiness.again(ready).is_err() {
             self.has_failed = true;
         }
@@ -306,12 +392,8 @@ impl<'a, R: Net<Listener = TcpListener, Stream = TcpStream> + Files<File = File>
         ensures few { length (numbers_of (Got result)) ≤ 32 }
         ensures answers { AnswersBind service number result }
     {
-        let is_watched = match self.listeners.get(fd) {
-            Some(socket) => self.readiness.watch(socket.raw(), Ready::Listener(fd)),
-            None => false,
-        };
-        if !is_watched {
-            self.listeners.close(self.rt, fd);
+        if !self.listeners.watch(&self.readiness, fd) {
+            self.listeners.close(self.rt, &self.readiness, fd);
             return Event::BindFailed(service, number);
         }
         self.endpoints.give(at, fd);
@@ -324,7 +406,7 @@ impl<'a, R: Net<Listener = TcpListener, Stream = TcpStream> + Files<File = File>
         ensures answers { AnswersAdopt service number result }
     {
         match self.endpoints.place(service, number) {
-            Some(at) if self.listeners.get(fd).is_some() => {
+            Some(at) if self.listeners.watch(&self.readiness, fd) => {
                 self.endpoints.give(at, fd);
                 Event::Adopted(service, number)
             }
@@ -334,7 +416,7 @@ impl<'a, R: Net<Listener = TcpListener, Stream = TcpStream> + Files<File = File>
 
     /// Closes a listening socket.
     fn close_listener(&mut self, fd: u64) {
-        self.listeners.close(self.rt, fd);
+        self.listeners.close(self.rt, &self.readiness, fd);
         self.endpoints.forget(fd);
     }
 
@@ -447,16 +529,16 @@ impl<'a, R: Net<Listener = TcpListener, Stream = TcpStream> + Files<File = File>
         }
     }
 
-    /// Performs an action. Gives the answer, if the action asks for one. Nothing is received from an older
-    /// server and nothing sent to a newer one.
+    /// Performs an action. Gives the answer, if the action asks for one.
     pub fn perform(&mut self, action: &Action) -> Option<Event>
         ensures few { IfSome result (λ e. length (numbers_of (Got e)) ≤ 32) }
         ensures answers { Answers action.now result }
+        ensures alone { self.old.taking ≡ None → is_offered self.old.offer ≡ false → AnswersAlone action.now result }
     {
         match action {
-            Action::TryReceive => Some(Event::ReceiveFailed),
-            Action::Connect => Some(Event::ConnectFailed),
-            Action::Send(_, _) => Some(Event::SendFailed),
+            Action::OpenReceiver | Action::TryReceive | Action::Connect | Action::Send(_, _) => {
+                self.perform_on_handover(action)
+            }
             Action::Phase(phase, _) => {
                 self.enter(*phase);
                 None
@@ -539,6 +621,9 @@ impl<'a, R: Net<Listener = TcpListener, Stream = TcpStream> + Files<File = File>
         if heard.is_gone {
             self.wake(Ready::Control);
         }
+        if heard.asks {
+            self.hear_upgrade(place);
+        }
     }
 
     /// An accept at the endpoint in this place failed with this error number. It rests a little.
@@ -571,7 +656,7 @@ impl<'a, R: Net<Listener = TcpListener, Stream = TcpStream> + Files<File = File>
         ensures { GivesFew result }
     {
         let came = match self.listeners.get(fd) {
-            Some(socket) => socket.accept(),
+            Some(bound) => bound.socket.accept(),
             None => Came::Nothing,
         };
         match came {
@@ -670,6 +755,7 @@ impl<'a, R: Net<Listener = TcpListener, Stream = TcpStream> + Files<File = File>
             return Look::Failed;
         }
         self.end_rests();
+        self.look_for_newer();
         if self.times.is_due(!self.readiness.is_empty()) {
             return self.tell_moment();
         }
@@ -688,12 +774,15 @@ impl<'a, R: Net<Listener = TcpListener, Stream = TcpStream> + Files<File = File>
         event
     }
 
-    /// What an operator asked for, that a service is ready, or the end of an accept loop from the broadcast on.
+    /// What an operator asked for, the moment where that was an upgrade, that a service is ready, or the end of an accept loop from the broadcast on.
     fn pending(&mut self) -> Option<Event>
         ensures { IfSome result (λ e. length (numbers_of (Got e)) ≤ 32) }
     {
         if let Some(signal) = self.signal.take() {
             return Some(Event::Signal(signal));
+        }
+        if mem::replace(&mut self.is_asked, false) {
+            return Some(Event::Moment(self.times.tell()));
         }
         if let Some(event) = self.next_ready() {
             return Some(event);

@@ -22,6 +22,8 @@ pub(crate) struct Times {
     pub rests: Option<u64>,
     /// When a service says that it is ready.
     pub readies: Option<u64>,
+    /// When a newer server is looked for.
+    pub looks: Option<u64>,
 }
 
 /// The earlier of two moments, where the first is known.
@@ -65,6 +67,7 @@ impl Times {
             due: None,
             rests: None,
             readies: None,
+            looks: None,
         })
     }
 
@@ -87,7 +90,8 @@ impl Times {
     /// In how many milliseconds the time next matters; none where it never does.
     pub(crate) fn until_due(&self) -> Option<u64> {
         let told = earlier(self.due, self.rests);
-        let due = earlier(told, self.readies)?;
+        let said = earlier(self.readies, self.looks);
+        let due = earlier(told, said)?;
         Some(due.saturating_sub(self.now))
     }
 
@@ -105,6 +109,11 @@ impl Times {
     /// A service says that it is ready.
     pub(crate) fn are_ready(&self) -> bool {
         is_there(self.readies, self.now)
+    }
+
+    /// A newer server is to be looked for.
+    pub(crate) fn are_to_look(&self) -> bool {
+        is_there(self.looks, self.now)
     }
 
     /// Tells the moment.
