@@ -1,5 +1,5 @@
 -- How a program with several generations ends.
-use Rattle.std.specs.Prelude.{ℕ, Bool, true, false, not, ◌||◌, List, [], ◌∷◌, Option, Some, None, Ok, Err, nat_lt, if◌then◌else◌}
+use Rattle.std.specs.Prelude.{Bool, true, false, not, ◌||◌, List, [], ◌∷◌, Option, Some, None, Err, nat_lt, if◌then◌else◌}
 use Rattle.svc_record.specs.declared.action.BootstrapError.TheVariants as boots
 use Rattle.svc_server.specs.declared.run.RunError.TheVariants as errors
 use Rattle.svc_serve.specs.declared.ending.Ending.{Ending}

@@ -39,8 +39,10 @@ fn has_served(ending: Ending) -> bool
 fn newer(known: Option<Ended>, ended: Ended) -> Option<Ended>
     ensures { result ≡ newer known ended }
 {
+    if !has_served(ended.ending) {
+        return known;
+    }
     match known {
-        _ if !has_served(ended.ending) => known,
         Some(last) if ended.number < last.number => Some(last),
         _ => Some(ended),
     }

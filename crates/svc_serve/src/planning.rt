@@ -1,6 +1,6 @@
 //! What a file says, read and planned before anything of it begins.
 
-ghost use Rattle.std.specs.Prelude.{◌≡◌, ◌≤◌, true, length, IfOk};
+ghost use Rattle.std.specs.Prelude.{◌≡◌, ◌≤◌, length, IfOk, IfNone};
 ghost use Rattle.svc_server.specs.Servers.{answers_of, plan_of, IsSound};
 ghost use Rattle.svc_serve.specs.Files.{IsTaken};
 
@@ -84,7 +84,9 @@ impl Stays {
     }
 
     /// The first key whose value differs in another file.
-    fn changed(&self, other: &Stays) -> Option<Key> {
+    fn changed(&self, other: &Stays) -> Option<Key>
+        ensures { IfNone result (self.now ≡ other.now) }
+    {
         if self.upgrade_sock != other.upgrade_sock {
             Some(Key::UpgradeSock)
         } else if self.pid_file != other.pid_file {

@@ -1,7 +1,5 @@
 //! How a generation begins the next one.
 
-ghost use Rattle.std.specs.Prelude.{◌≡◌};
-
 use crate::generation::Generation;
 use crate::generations::{Ground, News};
 use crate::planning::{Planned, Stays, planned_newer};
