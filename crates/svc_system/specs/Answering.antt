@@ -66,6 +66,13 @@ AnswersOnHandover actions.Connect answer = IsSomeAnd answer AnswersConnect
 AnswersOnHandover (actions.Send bytes fds) answer = IsSomeAnd answer AnswersSend
 AnswersOnHandover action answer = answer ≡ None
 
+-- what is answered where no older server is known, or no newer one: a failure
+abbrev pub AnswersAlone : Action → Option Event → Type 0
+AnswersAlone actions.TryReceive answer = answer ≡ Some events.ReceiveFailed
+AnswersAlone actions.Connect answer = answer ≡ Some events.ConnectFailed
+AnswersAlone (actions.Send bytes fds) answer = answer ≡ Some events.SendFailed
+AnswersAlone action answer = Unit {0}
+
 -- what is answered to any action
 abbrev pub Answers : Action → Option Event → Type 0
 Answers actions.OpenReceiver answer = answer ≡ None

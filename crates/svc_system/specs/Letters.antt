@@ -23,6 +23,19 @@ IsHandle bound other = (arc_value other.socket ≡ arc_value bound.socket) × (o
 abbrev pub bound_in : Listeners → ℕ → Option Bound
 bound_in listeners number = option_map (λ row. row.bound) (find (λ row. row.number == number) listeners.rows.items)
 
+-- the numbers of the open ones
+abbrev pub numbers_in : Listeners → List ℕ
+numbers_in listeners = map (λ row. row.number) listeners.rows.items
+
+-- one more listener is open, and its number is noted; or neither
+abbrev pub IsNoted : List ℕ → List ℕ → List ℕ → List ℕ → Type 0
+IsNoted before now noted_before noted = (numbers : List ℕ) × (now ≡ before ++ numbers) × (noted ≡ noted_before ++ numbers)
+
+-- the listeners of a letter are open under these numbers, behind those that were
+abbrev pub Opens : Event → Listeners → Listeners → Type 0
+Opens (events.Received bytes fds) before now = numbers_in now ≡ numbers_in before ++ fds
+Opens event before now = numbers_in now ≡ numbers_in before
+
 -- what is handed over: a socket with its path, of a listener with its number in the older server's record
 pub record Shown : Type 0 where
   pub number : Option ℕ

@@ -1,5 +1,5 @@
 -- What a line of an operator says so far.
-use Rattle.std.specs.Prelude.{ℕ, List, Option, Some, None, take, drop, if◌then◌else◌}
+use Rattle.std.specs.Prelude.{ℕ, ◌-◌, List, [], Option, Some, None, take, drop, nat_lt, if◌then◌else◌}
 use Rattle.svc_system.specs.Orders.{order_of}
 use Rattle.svc_system.specs.declared.orders.LineStep.{LineStep}
 use Rattle.svc_system.specs.declared.orders.LineStep.TheVariants as steps
@@ -17,4 +17,4 @@ step_of None = steps.Unknown
 
 -- what stands behind the word `upgrade` and a space in the last whole line
 abbrev pub path_in : OrderLine → List ℕ
-path_in line = drop 8 (take line.said line.bytes)
+path_in line = if nat_lt line.said 8 then [] else take (line.said - 8) (drop 8 line.bytes)

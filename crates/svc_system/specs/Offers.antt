@@ -16,9 +16,13 @@ refusal refusals.TooMany = codes "refused: more than 32 listeners can't be hande
 refusal refusals.NotText = codes "refused: the path isn't UTF-8" ++ 10 ∷ []
 refusal refusals.NoMemory = codes "refused: out of memory" ++ 10 ∷ []
 
+-- a text without its line feeds
+abbrev pub without_feeds : List ℕ → List ℕ
+without_feeds text = filter (λ byte. not (byte == 10)) text
+
 -- the line of another cause: its line feeds are left out
 abbrev pub one_line : List ℕ → List ℕ
-one_line cause = codes "refused: " ++ filter (λ byte. not (byte == 10)) cause ++ 10 ∷ []
+one_line cause = codes "refused: " ++ without_feeds cause ++ 10 ∷ []
 
 -- what is heard of an answer, with the line of its cause
 abbrev pub heard : UpgradeAnswer → List ℕ → List ℕ
@@ -42,6 +46,11 @@ after_answer offer answer until = offer
 abbrev pub is_begun : Offer → Bool
 is_begun (offers.Begun handover until) = true
 is_begun offer = false
+
+-- a newer server receives, and is offered the sockets
+abbrev pub is_offered : Offer → Bool
+is_offered (offers.Offered handover) = true
+is_offered offer = false
 
 -- the sockets are the newer server's
 abbrev pub has_sent : Offer → Bool

@@ -4,7 +4,7 @@ ghost use Rattle.std.specs.Prelude.{◌≡◌, ◌≢◌, ◌≤◌, ◌<◌, �
 ghost use Rattle.svc_sockets.specs.declared.slot.Letter.{Letter};
 ghost use Rattle.svc_sockets.specs.declared.slot.Slot.TheVariants.{Listening};
 ghost use Rattle.svc_sockets.specs.Slots.{connected, opened};
-ghost use Rattle.svc_system.specs.Letters.{IsConnectAnswer, IsLetterOf, IsSent, IsSentOrNot, handle_in, shown};
+ghost use Rattle.svc_system.specs.Letters.{IsConnectAnswer, IsLetterOf, IsSent, IsSentOrNot, IsWithControl, handle_in, shown};
 
 use crate::listeners::{Bound, Listeners};
 use crate::readiness::Readiness;
@@ -131,11 +131,25 @@ pub(crate) fn letter_of(
     Some(letter)
 }
 
+/// The letter with the control socket behind what it hands over, if there is one.
+fn with_control(mut letter: Letter<Handed>, control: Option<Bound>) -> Letter<Handed>
+    requires { vec_len letter.handed < vec_capacity letter.handed }
+    ensures { IsWithControl letter control result }
+{
+    match control {
+        Some(bound) => {
+            letter.handed.push_reserved(Handed::Control(bound));
+            letter
+        }
+        None => letter,
+    }
+}
+
 /// Sends a letter, with the control socket behind what it hands over. Where the newer server isn't connected
 /// nothing leaves.
 fn send(
     slot: &mut Slot<Handed>,
-    mut letter: Letter<Handed>,
+    letter: Letter<Handed>,
     control: &mut Option<Bound>,
 ) -> Sending
     requires { vec_len letter.handed < vec_capacity letter.handed }
@@ -143,9 +157,7 @@ fn send(
 {
     match slot {
         Slot::Connected => {
-            if let Some(bound) = control.take() {
-                letter.handed.push_reserved(Handed::Control(bound));
-            }
+            let letter = with_control(letter, control.take());
             match slot.send(letter) {
                 Ok(()) => Sending::Sent,
                 Err(_) => unreachable!(),
@@ -169,11 +181,16 @@ fn leave(
     ensures { IsSentOrNot letter slot.old slot.new control.old control.new result }
 {
     if is_connected(slot) {
-        if let Some(bound) = control {
-            readiness.forget(bound.raw());
-        }
+        forget(control, readiness);
     }
     send(slot, letter, control)
+}
+
+/// The socket isn't watched any more.
+fn forget(control: &Option<Bound>, readiness: &Readiness) {
+    if let Some(bound) = control {
+        readiness.forget(bound.raw());
+    }
 }
 
 /// The older server is connected to the newer one.

@@ -1,6 +1,7 @@
 //! Listening sockets, by the numbers that a server's record knows them by.
 
-ghost use Rattle.std.specs.Prelude.{◌≡◌, ◌++◌, ◌∷◌, [], IfOk, OnErr, list_has};
+ghost use Rattle.std.specs.Prelude.{◌≡◌, ◌==◌, ◌++◌, ◌∷◌, [], IfOk, OnErr};
+ghost use Rattle.std.specs.List.{list_any};
 ghost use Rattle.std.specs.Option.{option_copied};
 
 use crate::address::{Address, is_freed};
@@ -247,6 +248,8 @@ impl Listener {
 }
 
 impl Listeners {
+    ghost use Rattle.svc_system.specs.Letters.{bound_in, numbers_in};
+
     /// None is open.
     pub(crate) fn new(alloc: Global) -> Self {
         Listeners {
@@ -262,7 +265,10 @@ impl Listeners {
     }
 
     /// Adds one, and answers its number.
-    pub(crate) fn add(&mut self, bound: Bound) -> Result<u64, NoMemory> {
+    pub(crate) fn add(&mut self, bound: Bound) -> Result<u64, NoMemory>
+        ensures added { IfOk result (λ number. numbers_in self.new ≡ numbers_in self.old ++ number ∷ []) }
+        ensures full { OnErr result (numbers_in self.new ≡ numbers_in self.old) }
+    {
         let number = self.next;
         self.rows.push(Listener {
             number,
@@ -282,7 +288,9 @@ impl Listeners {
     }
 
     /// The socket with this number, if it is open.
-    pub(crate) fn get(&self, number: u64) -> Option<&Bound> {
+    pub(crate) fn get(&self, number: u64) -> Option<&Bound>
+        ensures { option_copied result ≡ bound_in self.now number }
+    {
         match self.rows.iter().find(|listener| listener.number == number) {
             Some(listener) => Some(&listener.bound),
             None => None,
@@ -312,7 +320,9 @@ impl Listeners {
     }
 
     /// It was handed over.
-    fn is_handed(&self, number: u64) -> bool {
+    fn is_handed(&self, number: u64) -> bool
+        ensures { result ≡ list_any (λ other. other == number) self.now.handed }
+    {
         self.handed.as_slice().contains(&number)
     }
 

@@ -1,7 +1,7 @@
 //! The upgrade that operators ask for, how far it is, and what they hear of it.
 
 ghost use Rattle.std.specs.Prelude.{◌≡◌, ◌<◌, ◌≤◌, ◌++◌, ◌∷◌, [], codes, filter, not, true, IfOk, IfSome, IfNone, OnOk, OnErr};
-ghost use Rattle.svc_system.specs.Offers.{IsOffered, after_answer, has_sent, heard, is_begun, one_line, refusal, taken, waiting};
+ghost use Rattle.svc_system.specs.Offers.{IsOffered, after_answer, has_sent, heard, is_begun, one_line, refusal, taken, waiting, without_feeds};
 
 use crate::handover::Handover;
 use std::alloc::Global;
@@ -104,17 +104,25 @@ impl AskRefused {
     }
 }
 
+/// A text without its line feeds.
+fn without_feeds(alloc: Global, text: &str) -> Result<Vec<u8>, NoMemory>
+    ensures { IfOk result (λ said. said.items ≡ without_feeds text.now) }
+{
+    let mut said = Vec::new(alloc);
+    said.extend_from_slice(text.as_bytes())?;
+    said.retain(|byte| *byte != b'\n');
+    Ok(said)
+}
+
 /// The line of a cause: its line feeds are left out.
 pub(crate) fn refused_line(alloc: Global, cause: &str) -> Result<Vec<u8>, NoMemory>
     ensures { IfOk result (λ line. line.items ≡ one_line cause.now) }
 {
-    let mut said = Vec::new(alloc);
-    said.extend_from_slice(cause.as_bytes())?;
-    said.retain(|byte| *byte != b'\n');
+    let said = without_feeds(alloc, cause)?;
     let mut line = Vec::new(alloc);
     line.extend_from_slice(b"refused: ")?;
     line.extend_from_slice(said.as_slice())?;
-    line.push(b'\n')?;
+    line.extend_from_slice(b"\n")?;
     Ok(line)
 }
 

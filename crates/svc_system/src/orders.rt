@@ -1,6 +1,6 @@
 //! What an operator says: a word on a line, and the path of a file behind one of them.
 
-ghost use Rattle.std.specs.Prelude.{◌≡◌, ◌≢◌, ◌≤◌, ◌<◌, length};
+ghost use Rattle.std.specs.Prelude.{◌≡◌, ◌≢◌, ◌≤◌};
 ghost use Rattle.std.specs.Str.{bytes_eq};
 ghost use Rattle.svc_system.specs.Orders.{asks_upgrade, order_of};
 
@@ -119,7 +119,9 @@ impl OrderLine {
     pub fn take(&mut self, byte: u8) -> LineStep
         ensures on { byte ≢ 10 → result ≡ LineStep.On }
         ensures whole { byte ≡ 10 → result ≡ step_of (known self.old) }
-        ensures next { byte ≡ 10 → self.new ≡ record self.old { count = 0; is_long = false; said = self.old.count } }
+        ensures next { byte ≡ 10 → self.new.count ≡ 0 }
+        ensures said { byte ≡ 10 → self.new.said ≡ self.old.count }
+        ensures kept { byte ≡ 10 → self.new.bytes ≡ self.old.bytes }
     {
         if byte != b'\n' {
             self.add(byte);

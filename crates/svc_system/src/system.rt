@@ -4,7 +4,8 @@
 ghost use Rattle.std.specs.Prelude.{◌≡◌, ◌≤◌, true, false, length, None, IfOk, IfSome};
 ghost use Rattle.svc_record.specs.declared.entry.Entry.TheVariants.{Got};
 ghost use Rattle.svc_record.specs.Descriptors.{numbers_of};
-ghost use Rattle.svc_system.specs.Answering.{Answers, AnswersAdopt, AnswersBind, AnswersOnConnection, AnswersOnEndpoint};
+ghost use Rattle.svc_system.specs.Offers.{is_offered};
+ghost use Rattle.svc_system.specs.Answering.{Answers, AnswersAlone, AnswersAdopt, AnswersBind, AnswersOnConnection, AnswersOnEndpoint};
 ghost use Rattle.svc_system.specs.Given.{GivesFew, GivesFewItem};
 
 mod handing;
@@ -529,6 +530,7 @@ impl<'a, R: Net<Listener = TcpListener, Stream = TcpStream> + Files<File = File>
     pub fn perform(&mut self, action: &Action) -> Option<Event>
         ensures few { IfSome result (λ e. length (numbers_of (Got e)) ≤ 32) }
         ensures answers { Answers action.now result }
+        ensures alone { self.old.taking ≡ None → is_offered self.old.offer ≡ false → AnswersAlone action.now result }
     {
         match action {
             Action::OpenReceiver | Action::TryReceive | Action::Connect | Action::Send(_, _) => {

@@ -1,10 +1,12 @@
 //! How a server's sockets go over to a newer one, and how those of an older one come.
 
-ghost use Rattle.std.specs.Prelude.{◌≡◌, ◌≢◌, ◌<◌, ◌≤◌, None, IfOk, IfErr, IfSome, length, true, false, vec_len, vec_capacity};
+ghost use Rattle.std.specs.Prelude.{◌≡◌, ◌≢◌, ◌<◌, ◌≤◌, None, IfOk, IfErr, IfSome, ℕ, List, [], ◌++◌, length, true, false, vec_len, vec_capacity};
 ghost use Rattle.svc_record.specs.declared.entry.Entry.TheVariants.{Got};
 ghost use Rattle.svc_record.specs.Descriptors.{numbers_of};
-ghost use Rattle.svc_system.specs.Answering.{AnswersConnect, AnswersOnHandover, AnswersReceive, AnswersSend};
-ghost use Rattle.svc_system.specs.Offers.{has_sent, taken};
+ghost use Rattle.svc_system.specs.Answering.{AnswersAlone, AnswersConnect, AnswersOnHandover, AnswersReceive, AnswersSend};
+ghost use Rattle.svc_system.specs.Letters.{IsNoted, Opens, numbers_in};
+ghost use Rattle.svc_base.specs.Items.{list_of};
+ghost use Rattle.svc_system.specs.Offers.{has_sent, is_offered, taken};
 
 use crate::handover::{Handed, Handover, Sending, Taking, letter_of};
 use super::{Basis, OpenRefused, System, unwatched, with_tables};
@@ -164,6 +166,7 @@ impl<'a, R: Net<Listener = TcpListener, Stream = TcpStream> + Files<File = File>
     fn connect(&self) -> Event
         ensures few { length (numbers_of (Got result)) ≤ 32 }
         ensures answers { AnswersConnect result }
+        ensures alone { is_offered self.now.offer ≡ false → result ≡ Event.ConnectFailed }
     {
         match &self.offer {
             Offer::Offered(handover) => handover.connect(),
@@ -175,6 +178,8 @@ impl<'a, R: Net<Listener = TcpListener, Stream = TcpStream> + Files<File = File>
     fn send_letter(&mut self, letter: Letter<Handed>) -> Sending
         requires { vec_len letter.handed < vec_capacity letter.handed }
         ensures kept { result ≢ Sending.Sent → self.new ≡ self.old }
+        ensures gone { result ≡ Sending.Sent → self.new ≡ record self.old { operators = record self.old.operators { bound = None } } }
+        ensures alone { is_offered self.old.offer ≡ false → result ≡ Sending.Failed }
     {
         match &self.offer {
             Offer::Offered(handover) => {
@@ -193,8 +198,10 @@ impl<'a, R: Net<Listener = TcpListener, Stream = TcpStream> + Files<File = File>
         ensures few { length (numbers_of (Got result)) ≤ 32 }
         ensures answers { AnswersSend result }
         ensures kept { result ≢ Event.Sent → self.new ≡ self.old }
+        ensures gone { result ≡ Event.Sent → self.new.operators ≡ record self.old.operators { bound = None } }
         ensures forgotten { result ≡ Event.Sent → self.new.listeners ≡ record self.old.listeners { handed = fds.now } }
         ensures done { result ≡ Event.Sent → self.new.offer ≡ Offer.Sent }
+        ensures alone { is_offered self.old.offer ≡ false → result ≡ Event.SendFailed }
     {
         if fds.len() > MOST_HANDED {
             return Event::SendFailed;
@@ -227,6 +234,7 @@ impl<'a, R: Net<Listener = TcpListener, Stream = TcpStream> + Files<File = File>
     fn receive(&mut self) -> Event
         ensures few { length (numbers_of (Got result)) ≤ 32 }
         ensures answers { AnswersReceive result }
+        ensures opens { Opens result self.old.listeners self.new.listeners }
         ensures alone { self.old.taking ≡ None → (result ≡ Event.ReceiveFailed) × (self.new ≡ self.old) }
     {
         let Some(taking) = &mut self.taking else {
@@ -242,6 +250,8 @@ impl<'a, R: Net<Listener = TcpListener, Stream = TcpStream> + Files<File = File>
     fn unfold(&mut self, letter: Letter<Handed>) -> Event
         ensures few { length (numbers_of (Got result)) ≤ 32 }
         ensures answers { AnswersReceive result }
+        ensures opens { Opens result self.old.listeners self.new.listeners }
+        ensures message { (bytes : List ℕ) (fds : List ℕ) → result ≡ Event.Received bytes fds → bytes ≡ letter.bytes.items }
     {
         match self.room_for(&letter) {
             Ok((bytes, fds)) => {
@@ -260,7 +270,9 @@ impl<'a, R: Net<Listener = TcpListener, Stream = TcpStream> + Files<File = File>
 
     /// The message of a letter, and room for what it hands over.
     fn room_for(&mut self, letter: &Letter<Handed>) -> Result<(Bytes, Numbers), NoMemory>
-        ensures { IfOk result (λ room. room.0 ≡ letter.now.bytes.items) }
+        ensures bytes { IfOk result (λ room. room.0 ≡ letter.now.bytes.items) }
+        ensures fds { IfOk result (λ room. list_of room.1.items ≡ []) }
+        ensures numbers { numbers_in self.new.listeners ≡ numbers_in self.old.listeners }
     {
         let bytes = copy_items(self.alloc, letter.bytes.as_slice())?;
         self.listeners.reserve(MOST_HANDED)?;
@@ -270,7 +282,9 @@ impl<'a, R: Net<Listener = TcpListener, Stream = TcpStream> + Files<File = File>
 
     /// Opens what a letter hands over, and answers the numbers of its listeners, in their order.
     fn open_all(&mut self, handed: Vec<Handed>, mut fds: Numbers) -> Items<u64>
+        requires { list_of fds.items ≡ [] }
         ensures few { length result ≤ 32 }
+        ensures numbers { numbers_in self.new.listeners ≡ numbers_in self.old.listeners ++ result }
     {
         for one in handed {
             match one {
@@ -283,7 +297,9 @@ impl<'a, R: Net<Listener = TcpListener, Stream = TcpStream> + Files<File = File>
     }
 
     /// Opens a listener, and notes its number. One for which there is no room is closed.
-    fn open_listener(&mut self, bound: Bound, fds: &mut Numbers) {
+    fn open_listener(&mut self, bound: Bound, fds: &mut Numbers)
+        ensures { IsNoted (numbers_in self.old.listeners) (numbers_in self.new.listeners) (list_of fds.old.items) (list_of fds.new.items) }
+    {
         if fds.is_full() {
             drop(bound);
             return;
@@ -297,6 +313,7 @@ impl<'a, R: Net<Listener = TcpListener, Stream = TcpStream> + Files<File = File>
     pub(super) fn perform_on_handover(&mut self, action: &Action) -> Option<Event>
         ensures few { IfSome result (λ e. length (numbers_of (Got e)) ≤ 32) }
         ensures answers { AnswersOnHandover action.now result }
+        ensures alone { self.old.taking ≡ None → is_offered self.old.offer ≡ false → AnswersAlone action.now result }
     {
         match action {
             Action::OpenReceiver => {
