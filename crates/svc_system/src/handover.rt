@@ -1,10 +1,11 @@
 //! How listening sockets go over from an older server to a newer one: a letter through a slot that both share.
 
-ghost use Rattle.std.specs.Prelude.{◌≡◌, ◌≢◌, ◌≤◌, ◌<◌, ◌∷◌, ◌++◌, [], Some, None, IfSome, IsTrue, OnOk, OnErr, vec_len, vec_capacity, map};
+ghost use Rattle.std.specs.Prelude.{◌≡◌, ◌≢◌, ◌<◌, [], None, IfOk, IfSome, IsTrue, vec_len, vec_capacity, map};
 ghost use Rattle.svc_sockets.specs.declared.slot.Letter.{Letter};
 ghost use Rattle.svc_sockets.specs.declared.slot.Slot.TheVariants.{Listening};
-ghost use Rattle.svc_sockets.specs.Slots.{connected, opened};
-ghost use Rattle.svc_system.specs.Letters.{IsConnectAnswer, IsLetterOf, IsSent, IsSentOrNot, IsWithControl, handle_in, shown};
+ghost use Rattle.std.specs.Arc.{arc_value};
+ghost use Rattle.svc_sockets.specs.Slots.{connected};
+ghost use Rattle.svc_system.specs.Letters.{IsConnectAnswer, IsLetterOf, IsSentOrNot, IsWithControl, handle_in, shown};
 
 use crate::listeners::{Bound, Listeners};
 use crate::readiness::Readiness;
@@ -147,11 +148,7 @@ fn with_control(mut letter: Letter<Handed>, control: Option<Bound>) -> Letter<Ha
 
 /// Sends a letter, with the control socket behind what it hands over. Where the newer server isn't connected
 /// nothing leaves.
-fn send(
-    slot: &mut Slot<Handed>,
-    letter: Letter<Handed>,
-    control: &mut Option<Bound>,
-) -> Sending
+fn send(slot: &mut Slot<Handed>, letter: Letter<Handed>, control: &mut Option<Bound>) -> Sending
     requires { vec_len letter.handed < vec_capacity letter.handed }
     ensures { IsSentOrNot letter slot.old slot.new control.old control.new result }
 {
@@ -239,7 +236,9 @@ impl Handover {
     }
 
     /// The same way once more. `NoMemory` where it can have no more handles.
-    pub fn share(&self) -> Result<Self, NoMemory> {
+    pub fn share(&self) -> Result<Self, NoMemory>
+        ensures { IfOk result (λ other. arc_value other.slot ≡ arc_value self.now.slot) }
+    {
         match Arc::try_clone(&self.slot) {
             Ok(slot) => Ok(Handover { slot }),
             Err(_) => Err(NoMemory),

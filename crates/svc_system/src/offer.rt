@@ -1,6 +1,6 @@
 //! The upgrade that operators ask for, how far it is, and what they hear of it.
 
-ghost use Rattle.std.specs.Prelude.{◌≡◌, ◌<◌, ◌≤◌, ◌++◌, ◌∷◌, [], codes, filter, not, true, IfOk, IfSome, IfNone, OnOk, OnErr};
+ghost use Rattle.std.specs.Prelude.{◌≡◌, ◌<◌, ◌≤◌, true, IfOk, IfNone, OnOk, OnErr};
 ghost use Rattle.svc_system.specs.Offers.{IsOffered, after_answer, has_sent, heard, is_begun, one_line, refusal, taken, waiting, without_feeds};
 
 use crate::handover::Handover;
@@ -244,16 +244,6 @@ impl Offer {
             Sight::Waits | Sight::Nobody => {}
         }
         sight
-    }
-
-    /// The number of the operator who waits for an answer.
-    pub(crate) fn waiting(&self) -> Option<u64>
-        ensures { result ≡ waiting self.now }
-    {
-        match self {
-            Offer::Told(operator) => Some(*operator),
-            _ => None,
-        }
     }
 
     /// The sockets are the newer server's.

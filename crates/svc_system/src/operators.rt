@@ -8,14 +8,13 @@ use crate::readiness::Readiness;
 use crate::report::Report;
 use crate::tokens::{OPERATORS, Ready};
 use std::alloc::Global;
-use std::fs;
 use std::fs::File;
 use std::io::{ErrorKind, Read, Write};
 use std::mem::drop;
 use std::net::{Net, TcpListener, TcpStream};
 use std::os::fd::AsRawFd;
 use std::rt::Files;
-use std::str;
+use std::{fs, str};
 use svc_base::{NoMemory, Text};
 use svc_record::ShutdownSignal;
 

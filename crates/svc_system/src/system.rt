@@ -342,7 +342,10 @@ impl<'a, R: Net<Listener = TcpListener, Stream = TcpStream> + Files<File = File>
     }
 
     /// It has its turn at once.
-    fn wake(&mut self, ready: Ready) {
+    fn wake(&mut self, ready: Ready)
+        ensures offer { self.new.offer ≡ self.old.offer }
+        ensures listeners { self.new.listeners ≡ self.old.listeners }
+    {
         if self.readiness.again(ready).is_err() {
             self.has_failed = true;
         }

@@ -6,13 +6,15 @@ ghost use Rattle.svc_record.specs.Descriptors.{numbers_of};
 ghost use Rattle.svc_system.specs.Answering.{AnswersAlone, AnswersConnect, AnswersOnHandover, AnswersReceive, AnswersSend};
 ghost use Rattle.svc_system.specs.Letters.{IsNoted, Opens, numbers_in};
 ghost use Rattle.svc_base.specs.Items.{list_of};
-ghost use Rattle.svc_system.specs.Offers.{has_sent, is_offered, taken};
+ghost use Rattle.svc_system.specs.Offers.{after_answer, has_sent, is_offered, taken};
 
-use crate::handover::{Handed, Handover, Sending, Taking, letter_of};
 use super::{Basis, OpenRefused, System, unwatched, with_tables};
+use crate::handover::{Handed, Handover, Sending, Taking, letter_of};
 use crate::listeners::Bound;
 use crate::numbers::Numbers;
-use crate::offer::{AskRefused, Condition, MOST_HANDED, Offer, Sight, UpgradeAnswer, heard, refused_line};
+use crate::offer::{
+    AskRefused, Condition, MOST_HANDED, Offer, Sight, UpgradeAnswer, heard, refused_line,
+};
 use crate::tokens::Ready;
 use std::alloc::Global;
 use std::fs::File;
@@ -78,7 +80,9 @@ impl<'a, R: Net<Listener = TcpListener, Stream = TcpStream> + Files<File = File>
 
     /// What was begun where an operator asked for an upgrade. It is told in a line, as `heard` has it. Where no answer is
     /// owed nothing changes.
-    pub fn answer_upgrade(&mut self, answer: UpgradeAnswer) {
+    pub fn answer_upgrade(&mut self, answer: UpgradeAnswer)
+        ensures { (until : ℕ) × (self.new.offer ≡ after_answer self.old.offer answer until) }
+    {
         let cause = match &answer {
             UpgradeAnswer::Refused(cause) => refused_line(self.alloc, cause.as_str()),
             _ => Ok(Vec::new(self.alloc)),
@@ -90,21 +94,30 @@ impl<'a, R: Net<Listener = TcpListener, Stream = TcpStream> + Files<File = File>
     }
 
     /// Tells the operator who waits what was begun, with the line of its cause.
-    fn tell_answer(&mut self, answer: UpgradeAnswer, cause: &[u8]) {
-        let Some(operator) = self.offer.waiting() else {
-            drop(answer);
-            return;
-        };
-        if let Some(place) = self.operators.place_of(operator) {
-            self.answer_operator(place, heard(&answer, cause));
-        }
+    fn tell_answer(&mut self, answer: UpgradeAnswer, cause: &[u8])
+        ensures { (until : ℕ) × (self.new.offer ≡ after_answer self.old.offer answer until) }
+    {
         let now = self.times.now;
-        self.offer.answer(answer, now.saturating_add(PATIENCE));
-        self.times.looks = Some(now);
+        let line = heard(&answer, cause);
+        if let Some(operator) = self.offer.answer(answer, now.saturating_add(PATIENCE)) {
+            self.times.looks = Some(now);
+            self.answer_numbered(operator, line);
+        }
+    }
+
+    /// Gives the operator with this number the answer that is owed, if still there.
+    fn answer_numbered(&mut self, operator: u64, line: &[u8])
+        ensures { self.new.offer ≡ self.old.offer }
+    {
+        if let Some(place) = self.operators.place_of(operator) {
+            self.answer_operator(place, line);
+        }
     }
 
     /// Gives the operator in this place the answer that is owed, and another turn.
-    fn answer_operator(&mut self, place: usize, line: &[u8]) {
+    fn answer_operator(&mut self, place: usize, line: &[u8])
+        ensures { self.new.offer ≡ self.old.offer }
+    {
         self.operators.answer(place, line);
         self.wake(Ready::Operator(place));
         self.wake(Ready::Control);
