@@ -27,10 +27,6 @@ bound_in listeners number = option_map (λ row. row.bound) (find (λ row. row.nu
 abbrev pub numbers_in : Listeners → List ℕ
 numbers_in listeners = map (λ row. row.number) listeners.rows.items
 
--- one more listener is open, and its number is noted; or neither
-abbrev pub IsNoted : List ℕ → List ℕ → List ℕ → List ℕ → Type 0
-IsNoted before now noted_before noted = (numbers : List ℕ) × (now ≡ before ++ numbers) × (noted ≡ noted_before ++ numbers)
-
 -- the listeners of a letter are open under these numbers, behind those that were
 abbrev pub Opens : Event → Listeners → Listeners → Type 0
 Opens (events.Received bytes fds) before now = numbers_in now ≡ numbers_in before ++ fds

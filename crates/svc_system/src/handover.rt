@@ -1,10 +1,13 @@
 //! How listening sockets go over from an older server to a newer one: a letter through a slot that both share.
 
-ghost use Rattle.std.specs.Prelude.{◌≡◌, ◌≢◌, ◌<◌, [], None, IfOk, IfSome, IsTrue, vec_len, vec_capacity, map};
+ghost use Rattle.std.specs.Prelude.{◌≡◌, ◌≢◌, ◌<◌, ◌≤◌, [], None, IfOk, IfSome, IsTrue, length, vec_len, vec_capacity, map};
 ghost use Rattle.svc_sockets.specs.declared.slot.Letter.{Letter};
 ghost use Rattle.svc_sockets.specs.declared.slot.Slot.TheVariants.{Listening};
 ghost use Rattle.std.specs.Arc.{arc_value};
 ghost use Rattle.svc_sockets.specs.Slots.{connected};
+ghost use Rattle.svc_record.specs.declared.entry.Entry.TheVariants.{Got};
+ghost use Rattle.svc_record.specs.Descriptors.{numbers_of};
+ghost use Rattle.svc_system.specs.Answering.{AnswersConnect};
 ghost use Rattle.svc_system.specs.Letters.{IsConnectAnswer, IsLetterOf, IsSentOrNot, IsWithControl, handle_in, shown};
 
 use crate::listeners::{Bound, Listeners};
@@ -202,6 +205,8 @@ fn is_connected(slot: &Slot<Handed>) -> bool {
 fn connect(slot: &mut Slot<Handed>) -> Event
     ensures slot { slot.new ≡ connected slot.old }
     ensures answer { IsConnectAnswer slot.old result }
+    ensures any { AnswersConnect result }
+    ensures few { length (numbers_of (Got result)) ≤ 32 }
 {
     if slot.connect() {
         Event::Connected
@@ -275,7 +280,10 @@ impl Handover {
     }
 
     /// The older server connects to the newer one.
-    pub(crate) fn connect(&self) -> Event {
+    pub(crate) fn connect(&self) -> Event
+        ensures any { AnswersConnect result }
+        ensures few { length (numbers_of (Got result)) ≤ 32 }
+    {
         match self.slot.try_lock() {
             Some(mut slot) => {
                 let answer = connect(&mut slot);

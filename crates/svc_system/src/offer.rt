@@ -104,21 +104,21 @@ impl AskRefused {
     }
 }
 
-/// A text without its line feeds.
-fn without_feeds(alloc: Global, text: &str) -> Result<Vec<u8>, NoMemory>
-    ensures { IfOk result (λ said. said.items ≡ without_feeds text.now) }
+/// The bytes without line feeds.
+fn without_feeds(mut said: Vec<u8>) -> Vec<u8>
+    ensures { result.items ≡ without_feeds said.items }
 {
-    let mut said = Vec::new(alloc);
-    said.extend_from_slice(text.as_bytes())?;
     said.retain(|byte| *byte != b'\n');
-    Ok(said)
+    said
 }
 
 /// The line of a cause: its line feeds are left out.
 pub(crate) fn refused_line(alloc: Global, cause: &str) -> Result<Vec<u8>, NoMemory>
     ensures { IfOk result (λ line. line.items ≡ one_line cause.now) }
 {
-    let said = without_feeds(alloc, cause)?;
+    let mut said = Vec::new(alloc);
+    said.extend_from_slice(cause.as_bytes())?;
+    let said = without_feeds(said);
     let mut line = Vec::new(alloc);
     line.extend_from_slice(b"refused: ")?;
     line.extend_from_slice(said.as_slice())?;

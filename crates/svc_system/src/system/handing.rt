@@ -4,7 +4,7 @@ ghost use Rattle.std.specs.Prelude.{◌≡◌, ◌≢◌, ◌<◌, ◌≤◌, No
 ghost use Rattle.svc_record.specs.declared.entry.Entry.TheVariants.{Got};
 ghost use Rattle.svc_record.specs.Descriptors.{numbers_of};
 ghost use Rattle.svc_system.specs.Answering.{AnswersAlone, AnswersConnect, AnswersOnHandover, AnswersReceive, AnswersSend};
-ghost use Rattle.svc_system.specs.Letters.{IsNoted, Opens, numbers_in};
+ghost use Rattle.svc_system.specs.Letters.{Opens, numbers_in};
 ghost use Rattle.svc_base.specs.Items.{list_of};
 ghost use Rattle.svc_system.specs.Offers.{after_answer, has_sent, is_offered, taken};
 
@@ -311,7 +311,8 @@ impl<'a, R: Net<Listener = TcpListener, Stream = TcpStream> + Files<File = File>
 
     /// Opens a listener, and notes its number. One for which there is no room is closed.
     fn open_listener(&mut self, bound: Bound, fds: &mut Numbers)
-        ensures { IsNoted (numbers_in self.old.listeners) (numbers_in self.new.listeners) (list_of fds.old.items) (list_of fds.new.items) }
+        ensures { (before : List ℕ) → numbers_in self.old.listeners ≡ before ++ list_of fds.old.items
+            → numbers_in self.new.listeners ≡ before ++ list_of fds.new.items }
     {
         if fds.is_full() {
             drop(bound);
