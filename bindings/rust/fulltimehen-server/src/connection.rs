@@ -93,6 +93,12 @@ impl Drop for Guard {
     }
 }
 
+/// So long after the moment, or as far ahead as there are moments that matter.
+fn later(moment: Instant, after: Duration) -> Instant {
+    const FAR: Duration = Duration::from_secs(1 << 32);
+    moment + after.min(FAR)
+}
+
 struct Idle {
     after: Duration,
     last: Instant,
@@ -106,7 +112,7 @@ impl Idle {
             if self.sleep.as_mut().poll(context).is_pending() {
                 return false;
             }
-            let end = self.last + self.after;
+            let end = later(self.last, self.after);
             if end <= Instant::now() {
                 return true;
             }
@@ -293,7 +299,7 @@ impl Connection {
     pub fn set_idle_timeout(&mut self, after: Option<Duration>) {
         self.idle = after.map(|after| {
             let last = Instant::now();
-            Idle { after, last, sleep: Box::pin(sleep_until(last + after)) }
+            Idle { after, last, sleep: Box::pin(sleep_until(later(last, after))) }
         });
     }
 

@@ -591,13 +591,15 @@ impl Driver {
                     self.events.push_back(Event::Signal { kind });
                 }
             }
-            (Signal::Fast, Wanted::Handover) => {
+            (Signal::Fast, Wanted::Handover) if self.setup.shared.is_followed() => {
+                self.setup.shared.is_succeeded.set(true);
                 self.frozen = false;
                 self.events.push_back(Event::Signal { kind });
             }
             (kind, _) => {
                 self.abort_tasks();
                 self.wanted = Wanted::Stop;
+                self.frozen = false;
                 self.stop_service();
                 self.setup.shared.notify("STOPPING=1");
                 self.events.push_back(Event::Signal { kind });
@@ -619,9 +621,15 @@ impl Driver {
             return;
         }
         self.claimed = true;
-        if self.all_failed() {
+        let lacking = self.lacking();
+        if !lacking.is_empty() {
             let text: Vec<&str> = self.refusals.values().map(String::as_str).collect();
-            return self.fail(ServerError::Bind(text.join("; ")));
+            if self.all_failed() {
+                return self.fail(ServerError::Bind(text.join("; ")));
+            }
+            if self.is_predecessor_there() {
+                return self.fail(ServerError::Lacking(text.join("; ")));
+            }
         }
         self.drop_pool();
         *self.setup.shared.held.borrow_mut() = self.held();
@@ -633,7 +641,8 @@ impl Driver {
         if let Err(error) = self.setup.shared.manager.store(listeners) {
             say!(warn, "the service manager didn't take the sockets: {error}");
         }
-        self.setup.shared.notify(&format!("READY=1\nMAINPID={}\nSTATUS=Running", process::id()));
+        let own = process::id();
+        self.setup.shared.notify(&format!("READY=1\nMAINPID={own}\nSTATUS=Running{lacking}"));
         tracing::info!("serving");
     }
 
@@ -654,6 +663,21 @@ impl Driver {
                 );
             }
         }
+    }
+
+    /// The services that were given up, as a status has them.
+    fn lacking(&self) -> String {
+        let services = self.setup.services.iter().zip(&self.progress);
+        let names =
+            services.filter(|(_, progress)| progress.failed).map(|(it, _)| it.name.as_str());
+        let names: Vec<&str> = names.collect();
+        if names.is_empty() { String::new() } else { format!(", without {}", names.join(", ")) }
+    }
+
+    /// The program that this one takes over from lives, and serves on where this one ends.
+    fn is_predecessor_there(&self) -> bool {
+        let answer = self.setup.link.as_ref().map(|link| link.try_read(&mut [0]));
+        answer.is_some_and(|it| it.is_err_and(|error| error.kind() == io::ErrorKind::WouldBlock))
     }
 
     fn all_failed(&self) -> bool {

@@ -93,6 +93,9 @@ pub enum ServerError {
     /// No service could have its addresses.
     #[error("no service has its addresses: {0}")]
     Bind(String),
+    /// A service of a program that takes over (`-u`) could not have its addresses: the one that runs serves on.
+    #[error("a service doesn't have its addresses, so the program that runs serves on: {0}")]
+    Lacking(String),
     /// No program that runs sent its sockets (`-u`).
     #[error("no program that runs sent its sockets: it is asked to by SIGQUIT")]
     NoPredecessor,
@@ -122,7 +125,7 @@ pub enum ServerError {
 impl ServerError {
     /// The exit status of a program that ends by this: 2 for words that aren't taken, 3 for a refused
     /// configuration, plan or address, 4 where sockets couldn't be taken over, 5 where no service has its
-    /// addresses, 6 where another program serves, and 1 for the rest.
+    /// addresses, or with `-u` one hasn't, 6 where another program serves, and 1 for the rest.
     #[must_use]
     pub fn status(&self) -> u8 {
         match self {
@@ -133,7 +136,7 @@ impl ServerError {
             | ServerError::Address { .. }
             | ServerError::Plan(_) => 3,
             ServerError::NoPredecessor | ServerError::Transfer(_) | ServerError::BadMessage => 4,
-            ServerError::Bind(_) => 5,
+            ServerError::Bind(_) | ServerError::Lacking(_) => 5,
             ServerError::AlreadyRunning { .. } => 6,
             _ => 1,
         }

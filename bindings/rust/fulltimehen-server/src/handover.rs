@@ -243,16 +243,19 @@ pub(crate) async fn receive(
         let mut piece = vec![0; 65_536];
         loop {
             let is_readable = stream.readable();
+            let mut is_quiet = false;
             if bytes.is_empty() || frame == Frame::Length {
                 is_readable.await?;
             } else {
                 match timeout(QUIET, is_readable).await {
                     Ok(answer) => answer?,
-                    Err(_) => return Ok(()),
+                    Err(_) => is_quiet = true,
                 }
             }
-            let take = || sys::receive(stream, &mut piece);
-            match stream.try_io(Interest::READABLE, take) {
+            let mut take = || sys::receive(stream, &mut piece);
+            // Where this program had no processor for a while, there may be more than its runtime knows of.
+            let taken = if is_quiet { take() } else { stream.try_io(Interest::READABLE, take) };
+            match taken {
                 Ok((0, _)) if bytes.is_empty() || frame == Frame::Length => {
                     return Err(io::ErrorKind::UnexpectedEof.into());
                 }
@@ -261,6 +264,7 @@ pub(crate) async fn receive(
                     bytes.extend_from_slice(&piece[..count]);
                     fds.extend(came);
                 }
+                Err(error) if is_passing(&error) && is_quiet => return Ok(()),
                 Err(error) if is_passing(&error) => {}
                 Err(error) => return Err(error),
             }
@@ -328,7 +332,6 @@ fn decode_version_2(mut rest: &str) -> Option<Vec<String>> {
 mod tests {
     use super::*;
     use nix::sys::socket::{setsockopt, sockopt};
-    use std::env;
     use std::fs::File;
     use std::io::Read;
     use std::os::fd::{AsFd, AsRawFd};
@@ -367,6 +370,24 @@ mod tests {
         }
     }
 
+    /// What came while this program had no processor is of the message, too: a sender isn't quiet whose bytes wait.
+    #[tokio::test]
+    async fn a_receiver_that_was_held_up_reads_on() {
+        let (one, other) = UnixStream::pair().unwrap();
+        fds::send(&one, b"127.0.0.1:1 ", &[]).unwrap();
+        let sending = tokio::spawn(async move {
+            sleep(QUIET / 2).await;
+            fds::send(&one, b"127.0.0.1:2", &[]).unwrap();
+            one
+        });
+        let receiving = tokio::spawn(async move { receive(&other, Frame::ToItsEnd).await });
+        sleep(QUIET / 10).await;
+        // Both pauses pass before the runtime looks at either of them.
+        std::thread::sleep(2 * QUIET);
+        assert_eq!(receiving.await.unwrap().unwrap().0, b"127.0.0.1:1 127.0.0.1:2");
+        drop(sending.await.unwrap());
+    }
+
     /// A receiver that doesn't read is given up, and holds nobody up.
     #[tokio::test]
     async fn one_who_never_reads_is_given_up() {
@@ -384,7 +405,8 @@ mod tests {
     /// A socket whose path another one has by now leaves it there.
     #[tokio::test]
     async fn a_socket_that_was_replaced_leaves_the_path() {
-        let folder = env::temp_dir().join(format!("fulltimehen-sock-{}", process::id()));
+        // Temporary files may be in a folder whose path is too long for a socket.
+        let folder = PathBuf::from(format!("/tmp/fulltimehen-sock-{}", process::id()));
         fs::create_dir_all(&folder).unwrap();
         let (path, spare) = (folder.join("sock"), RefCell::new(Spare::none()));
         let first = PrivateSocket::open(&path).unwrap();

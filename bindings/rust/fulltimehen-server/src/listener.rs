@@ -1,6 +1,6 @@
 //! Listening sockets, and the connections that they accept.
 
-use crate::pid_file::FileId;
+use crate::pid_file::{FileId, PathLock};
 use crate::sys;
 use fulltimehen::{Peer, Setting};
 use socket2::{Domain, SockAddr, SockRef, Socket, TcpKeepalive, Type};
@@ -132,18 +132,22 @@ impl Listener {
                 let socket = Socket::new(Domain::for_address(*address), Type::STREAM, None)?;
                 socket.set_reuse_address(true)?;
                 socket.bind(&SockAddr::from(*address))?;
+                socket.listen(BACKLOG)?;
                 socket
             }
             Address::Unix { path, mode } => {
+                // To another server that begins at the same time it would look like one that is left behind until it listens.
+                let lock = PathLock::take(path)?;
                 remove_stale(path)?;
                 let socket = Socket::new(Domain::UNIX, Type::STREAM, None)?;
                 socket.bind(&SockAddr::unix(path)?)?;
                 // Nobody can connect before it listens.
                 fs::set_permissions(path, Permissions::from_mode(*mode))?;
+                socket.listen(BACKLOG)?;
+                drop(lock);
                 socket
             }
         };
-        socket.listen(BACKLOG)?;
         socket.set_nonblocking(true)?;
         let socket = match address {
             Address::Tcp(_) => Listening::Tcp(socket.into()),
@@ -372,7 +376,32 @@ impl Accepted {
 #[cfg(test)]
 mod tests {
     use super::*;
+    use std::process;
+    use std::sync::Barrier;
+    use std::thread;
     use std::time::Instant;
+
+    /// Of servers that begin at once at a path one has it, and its path leads to it.
+    #[test]
+    fn one_of_many_has_a_path() {
+        let path = PathBuf::from(format!("/tmp/fulltimehen-bind-{}", process::id()));
+        let address = Address::Unix { path: path.clone(), mode: 0o600 };
+        for _ in 0..200 {
+            let begin = Barrier::new(4);
+            let bind = || {
+                begin.wait();
+                Listener::bind(&address)
+            };
+            let bound: Vec<_> = thread::scope(|scope| {
+                let threads: Vec<_> = (0..4).map(|_| scope.spawn(bind)).collect();
+                threads.into_iter().filter_map(|it| it.join().unwrap().ok()).collect()
+            });
+            let [listener] = bound.try_into().unwrap();
+            drop(unix::UnixStream::connect(&path).unwrap());
+            assert!(listener.accept().is_ok());
+            fs::remove_file(&path).unwrap();
+        }
+    }
 
     #[test]
     fn a_socket_that_another_program_has_is_seen_to() {

@@ -12,7 +12,7 @@ use std::process;
 use std::thread;
 use std::time::{Duration, Instant};
 
-/// How long a folder that another program changes is waited for.
+/// How long a path that another program changes is waited for.
 const PATIENCE: Duration = Duration::from_secs(2);
 
 /// What a path leads to: the device and the number of the file.
@@ -36,19 +36,41 @@ pub(crate) fn with_ending(path: &Path, ending: &str) -> PathBuf {
     PathBuf::from(path)
 }
 
-/// The folder of a path, held so that no other server changes what stands in it meanwhile.
-pub(crate) fn lock_folder(path: &Path) -> io::Result<File> {
-    let folder = path.parent().filter(|folder| !folder.as_os_str().is_empty());
-    let folder = File::open(folder.unwrap_or(Path::new(".")))?;
-    let end = Instant::now() + PATIENCE;
-    loop {
-        match folder.try_lock() {
-            Ok(()) => return Ok(folder),
-            Err(TryLockError::WouldBlock) if Instant::now() < end => {
-                thread::sleep(Duration::from_millis(5));
+/// What stands at a path is changed by no other server as long as this lives: by a locked file beside it, with the ending
+/// `.lock`. Who may open a file may lock it, so that file is the user's alone, and the pid file is, too.
+#[derive(Debug)]
+pub(crate) struct PathLock {
+    beside: PathBuf,
+    /// Its lock goes with it.
+    _locked: File,
+}
+
+impl PathLock {
+    /// Waits for another server that changes it, for a short while.
+    pub(crate) fn take(path: &Path) -> io::Result<PathLock> {
+        let beside = with_ending(path, ".lock");
+        let end = Instant::now() + PATIENCE;
+        loop {
+            let mut options = OpenOptions::new();
+            let file =
+                options.write(true).create(true).truncate(false).mode(0o600).open(&beside)?;
+            match file.try_lock() {
+                // Who had it before has removed it: the next one makes another.
+                Ok(()) if FileId::at(&beside) != Some(FileId::of(&file.metadata()?)) => {}
+                Ok(()) => return Ok(PathLock { beside, _locked: file }),
+                Err(TryLockError::WouldBlock) if Instant::now() < end => {
+                    thread::sleep(Duration::from_millis(5));
+                }
+                Err(error) => return Err(error.into()),
             }
-            Err(error) => return Err(error.into()),
         }
+    }
+}
+
+impl Drop for PathLock {
+    fn drop(&mut self) {
+        // Where it can't be removed, the next server locks the same.
+        _ = fs::remove_file(&self.beside);
     }
 }
 
@@ -95,12 +117,12 @@ pub(crate) struct PidFile {
 
 impl PidFile {
     /// Puts a file of this process at the path, in place of what stands there. It is written beside it
-    /// first, so that a reader finds a whole one at each moment. The folder is to be locked.
+    /// first, so that a reader finds a whole one at each moment. The path is to be locked.
     pub(crate) fn put(path: &Path) -> io::Result<PidFile> {
         let beside = with_ending(path, &format!(".{}", process::id()));
         // What a process of this number left behind.
         _ = fs::remove_file(&beside);
-        let mut file = OpenOptions::new().write(true).create_new(true).mode(0o644).open(&beside)?;
+        let mut file = OpenOptions::new().write(true).create_new(true).mode(0o600).open(&beside)?;
         file.try_lock()?;
         let written = writeln!(file, "{}", process::id())
             .and_then(|()| file.sync_all())
@@ -120,12 +142,12 @@ impl PidFile {
 
     /// Removes it, where it stands at its path still.
     pub(crate) fn remove(self) {
-        let folder = lock_folder(&self.path);
+        let lock = PathLock::take(&self.path);
         if self.is_in_place() {
             // Where it is gone already, that is as well.
             _ = fs::remove_file(&self.path);
         }
-        drop(folder);
+        drop(lock);
     }
 }
 
@@ -133,11 +155,38 @@ impl PidFile {
 mod tests {
     use super::*;
     use std::env;
+    use std::os::unix::fs::PermissionsExt;
+    use std::sync::atomic::{AtomicU32, Ordering};
 
     fn folder(name: &str) -> PathBuf {
         let folder = env::temp_dir().join(format!("fulltimehen-{name}-{}", process::id()));
         fs::create_dir_all(&folder).unwrap();
         folder
+    }
+
+    /// One at a time has a path, also while each removes what it was locked by; nobody else may open that.
+    #[test]
+    fn one_at_a_time_has_a_path() {
+        let folder = folder("path");
+        let (path, lock) = (folder.join("pid"), folder.join("pid.lock"));
+        let inside = AtomicU32::new(0);
+        thread::scope(|scope| {
+            for _ in 0..4 {
+                scope.spawn(|| {
+                    for _ in 0..50 {
+                        // One that waits for its turn for too long tries again.
+                        let own = (0..100).find_map(|_| PathLock::take(&path).ok()).unwrap();
+                        assert_eq!(inside.fetch_add(1, Ordering::SeqCst), 0);
+                        let mode = fs::metadata(&lock).unwrap().permissions().mode();
+                        assert_eq!(mode & 0o777, 0o600);
+                        inside.fetch_sub(1, Ordering::SeqCst);
+                        drop(own);
+                    }
+                });
+            }
+        });
+        assert!(!lock.exists());
+        fs::remove_dir_all(folder).unwrap();
     }
 
     #[test]

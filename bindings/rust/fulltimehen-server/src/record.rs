@@ -5,7 +5,8 @@ use crate::pid_file::with_ending;
 use fulltimehen::{Plan, Record};
 use std::fmt;
 use std::fs::{self, File};
-use std::io::Write;
+use std::io::{self, Write};
+use std::panic::{AssertUnwindSafe, catch_unwind};
 use std::path::Path;
 use std::process;
 
@@ -27,14 +28,16 @@ impl Sink {
         Sink(Box::new(move |plan| Box::new(begin(plan))))
     }
 
-    /// Begins the record of a run with this plan.
+    /// Begins the record of a run with this plan. Where the program's call panics there is none.
     pub(crate) fn begin(&mut self, plan: &Plan) -> Option<Record> {
-        said(Record::to((self.0)(&plan.script())))
+        let writer = catch_unwind(AssertUnwindSafe(|| (self.0)(&plan.script())));
+        let panicked = |_| io::Error::other("the call that makes its writer panicked");
+        said(writer.map_err(panicked).and_then(Record::to))
     }
 }
 
 /// The record, or the reason why there is none is said.
-fn said(record: std::io::Result<Record>) -> Option<Record> {
+fn said(record: io::Result<Record>) -> Option<Record> {
     record.inspect_err(|error| say!(warn, "there is no record: {error}")).ok()
 }
 

@@ -376,7 +376,8 @@ impl Server {
     }
 
     /// When the connections of all services are looked at whether they live: after so long without a byte, and
-    /// then so often in this interval. By itself it is after 60 seconds, and then 6 times, every 10 seconds.
+    /// then so often in this interval. By itself it is after 60 seconds, and then 6 times, every 10 seconds. The system counts
+    /// whole seconds, from 1 to 32,767, and from 1 to 127 times: what is less or more is the nearest of these.
     ///
     /// ```
     /// use fulltimehen_server::Server;
@@ -387,7 +388,12 @@ impl Server {
     /// # Ok::<(), fulltimehen_server::ServerError>(())
     /// ```
     pub fn tcp_keepalive(&mut self, idle: Duration, interval: Duration, count: u32) {
-        self.keep_alive = Some(KeepAlive { idle, interval, count });
+        let seconds = |time: Duration| {
+            let whole = time.as_secs().saturating_add((time.subsec_nanos() > 0).into());
+            Duration::from_secs(whole.clamp(1, 32_767))
+        };
+        let (idle, interval) = (seconds(idle), seconds(interval));
+        self.keep_alive = Some(KeepAlive { idle, interval, count: count.clamp(1, 127) });
     }
 
     /// The phases of the run, as they come. One who is more than 64 behind misses some.

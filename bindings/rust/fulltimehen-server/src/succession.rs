@@ -13,7 +13,7 @@ use crate::inherited;
 use crate::limits::Spare;
 use crate::log::say;
 use crate::notify::Manager;
-use crate::pid_file::{self, FileId, Holder, PidFile, with_ending};
+use crate::pid_file::{self, FileId, Holder, PathLock, PidFile, with_ending};
 use crate::process::Process;
 use fulltimehen::Configuration;
 use std::cell::{Cell, RefCell};
@@ -332,7 +332,7 @@ impl Shared {
             return Ok(());
         };
         let failed = |error| refused(&paths.pid_file, error);
-        let folder = pid_file::lock_folder(&paths.pid_file).map_err(failed)?;
+        let lock = PathLock::take(&paths.pid_file).map_err(failed)?;
         if !takes_over
             && let Holder::Serves(pid) = pid_file::holder(&paths.pid_file).map_err(failed)?
         {
@@ -341,7 +341,7 @@ impl Shared {
         self.give_copies(paths);
         let own = PidFile::put(&paths.pid_file).map_err(failed)?;
         *self.own.borrow_mut() = Some(own);
-        drop(folder);
+        drop(lock);
         Ok(())
     }
 
@@ -377,7 +377,12 @@ impl Shared {
         let message = handover::encode(&words[..most]);
         match handover::send(&stream, &message, &fds[..most], Frame::Length).await {
             Ok(()) => {
-                self.known.borrow_mut().extend(process.clone());
+                // Those that are gone cost nothing any more, however often one comes and goes.
+                self.waiting();
+                let mut known = self.known.borrow_mut();
+                let is_new = |it: &&Process| known.iter().all(|one| one.number() != it.number());
+                let new = process.as_ref().filter(is_new).cloned();
+                known.extend(new);
                 self.waiting.borrow_mut().push(Waiting { process, stream });
             }
             Err(error) => say!(warn, "a program that waits got no copy: {error}"),
@@ -447,6 +452,12 @@ impl Shared {
         }
     }
 
+    /// Whether another program serves.
+    pub(crate) fn is_followed(&self) -> bool {
+        let other = |paths: &Paths| matches!(self.server(paths), Serving::Other(_));
+        self.is_succeeded.get() || self.paths.as_ref().is_some_and(other)
+    }
+
     /// The program that serves is told to end, too.
     pub(crate) fn end_other(&self) {
         let Some(paths) = self.paths.as_ref().filter(|_| self.succession.is_some()) else {
@@ -464,8 +475,11 @@ impl Shared {
 
     /// Waits until a program listens for the message, and connects to it. Where none does, it starts one, and
     /// the next one after a growing pause.
-    pub(crate) async fn seek(&self, paths: &Paths) -> (UnixStream, Option<Process>) {
-        let mut starter = Starter::new();
+    pub(crate) async fn seek(
+        &self,
+        paths: &Paths,
+        starter: &mut Starter,
+    ) -> (UnixStream, Option<Process>) {
         let mut said = None;
         loop {
             match handover::connect(&paths.upgrade_sock, &self.spare) {
@@ -505,6 +519,8 @@ impl Shared {
             return;
         };
         let (mut to, mut since) = (to, Instant::now());
+        // One that takes the sockets and ends is started again after growing pauses, too.
+        let mut starter = Starter::new();
         loop {
             sleep(LOOK).await;
             self.reap();
@@ -522,13 +538,16 @@ impl Shared {
                     say!(warn, "the program that took over is gone{who}");
                     self.reclaim(&paths, &held);
                     drop(file);
-                    to = None;
+                    (to, starter) = (None, Starter::new());
                 }
                 Serving::Own => {
                     if self.is_on_its_way(to.as_ref(), since) {
                         continue;
                     }
-                    let (stream, process) = self.seek(&paths).await;
+                    if to.take().is_some() && starter.child.is_none() {
+                        starter.fail("took the sockets and has ended");
+                    }
+                    let (stream, process) = self.seek(&paths, &mut starter).await;
                     let (_, fds) = table(&held);
                     match handover::send(&stream, &message, &fds, Frame::ToItsEnd).await {
                         Ok(()) => (to, since) = (process, Instant::now()),
@@ -606,7 +625,7 @@ enum Serving {
 }
 
 /// Starts the next program, again and again.
-struct Starter {
+pub(crate) struct Starter {
     /// The process that was started and hasn't ended.
     child: Option<u32>,
     next: Instant,
@@ -614,7 +633,7 @@ struct Starter {
 }
 
 impl Starter {
-    fn new() -> Starter {
+    pub(crate) fn new() -> Starter {
         Starter { child: None, next: Instant::now() + OTHERS_FIRST, pause: PAUSES[0] }
     }
 

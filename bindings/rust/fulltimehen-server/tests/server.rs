@@ -70,10 +70,23 @@ impl Running {
     }
 }
 
-/// An address that nobody listens at.
+/// An address that nobody listens at: each once, and of none of the ports that connections get by themselves, so that none of
+/// another test, nor the one that is made to it, takes it meanwhile.
 fn free() -> String {
-    let probe = TcpListener::bind((Ipv4Addr::LOCALHOST, 0)).unwrap();
-    probe.local_addr().unwrap().to_string()
+    static NEXT: AtomicU32 = AtomicU32::new(0);
+    loop {
+        let step = NEXT.fetch_add(1, Ordering::SeqCst);
+        let port = 10_000 + (process::id().wrapping_mul(61).wrapping_add(step)) % 20_000;
+        let address = SocketAddr::from((Ipv4Addr::LOCALHOST, u16::try_from(port).unwrap()));
+        if TcpListener::bind(address).is_ok() {
+            return address.to_string();
+        }
+    }
+}
+
+/// Whether this machine has addresses of IPv6.
+fn has_ipv6() -> bool {
+    TcpListener::bind("[::1]:0").is_ok()
 }
 
 /// A connection, as soon as somebody listens.
@@ -169,7 +182,9 @@ fn a_service_listens_once_what_it_depends_on_is_ready() {
 }
 
 fn scratch(name: &str) -> PathBuf {
-    let folder = env::temp_dir().join(format!("fulltimehen-{}", process::id()));
+    // The path of a socket is short, wherever temporary files are.
+    let folder = Some(env::temp_dir()).filter(|it| it.as_os_str().len() < 40);
+    let folder = folder.unwrap_or("/tmp".into()).join(format!("fulltimehen-{}", process::id()));
     fs::create_dir_all(&folder).unwrap();
     folder.join(name)
 }
@@ -299,7 +314,7 @@ fn filters_refuse_and_one_that_panics_does() {
     let (all, none, mapped, broken) = (free(), free(), free(), free());
     // A client of the one family at a socket of the other one: its address is mapped.
     let port = mapped.rsplit(':').next().unwrap();
-    let both = format!("[::]:{port}");
+    let both = if has_ipv6() { format!("[::]:{port}") } else { mapped.clone() };
     let addresses = [all.clone(), none.clone(), both, broken.clone()];
     let running = start(20, move |server| {
         let local = || ["127.0.0.0/8".parse().unwrap()];
@@ -430,7 +445,12 @@ fn what_goes_on_after_the_grace_period_is_aborted() {
     running.signal(Signal::Terminate);
     assert_eq!(stream.read(&mut word).unwrap_or(0), 0);
     assert_eq!(running.end_within(20).unwrap(), Outcome::Served);
-    assert_eq!(DROPPED.load(Ordering::SeqCst), 1);
+    // Threads that have no processor abort late.
+    let end = Instant::now() + Duration::from_secs(20);
+    while DROPPED.load(Ordering::SeqCst) != 1 {
+        assert!(Instant::now() < end, "the handler goes on");
+        thread::sleep(Duration::from_millis(5));
+    }
 }
 
 #[test]
@@ -516,6 +536,36 @@ fn a_silent_peer_and_one_that_never_reads_are_timed_out() {
         assert_eq!(told.recv_timeout(Duration::from_secs(20)).unwrap(), ErrorKind::TimedOut);
     }
     running.end();
+}
+
+/// Times that no clock has are as good as none, and the system gets none that it would refuse a socket for.
+#[test]
+fn times_that_are_too_long_or_too_short_are_taken() {
+    let address = free();
+    let there = address.clone();
+    let running = start(20, move |server| {
+        server.tcp_keepalive(Duration::from_nanos(1), Duration::MAX, 0);
+        let patient = listening("patient", |mut connection: Connection| async move {
+            connection.set_idle_timeout(Some(Duration::MAX));
+            echo(connection).await
+        });
+        server.add_service(patient.tcp(&there));
+    });
+    let mut stream = connect(&address);
+    thread::sleep(Duration::from_millis(50));
+    stream.write_all(b"hello").unwrap();
+    stream.shutdown(Shutdown::Write).unwrap();
+    assert_eq!(io::read_to_string(stream).unwrap(), "hello");
+    running.end();
+}
+
+#[test]
+fn a_record_whose_writer_panics_ends_no_run() {
+    let (operator, signals) = mpsc::channel(1);
+    operator.blocking_send(Signal::Terminate).unwrap();
+    let args =
+        RunArgs::default().signals(signals).record(|_| -> io::Sink { panic!("as it is to") });
+    assert_eq!(Server::new(None).unwrap().run(args).unwrap(), Outcome::Served);
 }
 
 #[test]
@@ -629,10 +679,9 @@ fn what_connections_send_has_its_class_in_either_family() {
         value
     }
     let port = free().rsplit(':').next().unwrap().to_owned();
-    let Ok(probe) = TcpListener::bind(format!("[::1]:{port}")) else {
+    if !has_ipv6() {
         return eprintln!("not tried: there is no IPv6 here");
-    };
-    drop(probe);
+    }
     let both = format!("[::]:{port}");
     let (tell, told) = channel();
     let running = start(20, move |server| {

@@ -32,7 +32,7 @@ fn a_reader_that_is_gone_costs_the_record() {
     while record.lost().is_none() && then.elapsed() < LONG {
         record.put("got moment 1\n");
         // The thread that writes gets its turn, so that the room for lines isn't what lacks.
-        std::thread::sleep(Duration::from_millis(1));
+        std::thread::sleep(Duration::from_millis(5));
     }
     assert!(matches!(record.lost(), Some(RecordError::Writer(_))), "{:?}", record.lost());
     record.put("got moment 2\n");

@@ -3,9 +3,9 @@
 use super::{Driver, Input, Wanted};
 use crate::handover::{self, PrivateSocket};
 use crate::log::say;
-use crate::pid_file;
+use crate::pid_file::PathLock;
 use crate::process::Process;
-use crate::succession::Held;
+use crate::succession::{Held, Starter};
 use crate::takeover::{self, Ended};
 use fulltimehen::{Event, FdId, Signal};
 use nix::time::{ClockId, clock_gettime};
@@ -103,7 +103,7 @@ impl Driver {
         }
         self.wanted = Wanted::Upgrade;
         let task = async move {
-            let (stream, process) = shared.seek(&paths).await;
+            let (stream, process) = shared.seek(&paths, &mut Starter::new()).await;
             shared.inputs.give(Input::Successor(stream, process));
         };
         self.tasks.push(spawn_local(task));
@@ -207,13 +207,13 @@ impl Driver {
     pub(super) fn open_receiver(&mut self) {
         let path = PathBuf::from(&self.setup.plan.settings().upgrade_sock);
         let open = || {
-            let folder = pid_file::lock_folder(&path)?;
+            let lock = PathLock::take(&path)?;
             if handover::connect(&path, &self.setup.shared.spare).is_ok() {
                 let text = "another program waits to take over already";
                 return Err(io::Error::new(io::ErrorKind::AddrInUse, text));
             }
             let opened = PrivateSocket::open(&path);
-            drop(folder);
+            drop(lock);
             opened
         };
         match open() {
