@@ -1,5 +1,5 @@
 -- What a service's endpoints have, and what has their addresses, is among the numbers that are looked at as it fails, and nothing else goes by that.
-use Rattle.std.proofs.Common.{ℕ, suc, Bool, true, false, not, ◌||◌, ◌&&◌, ◌==◌, inl, inr, List, [], ◌∷◌, filter, bytes_eq, ◌≡◌, ◌≢◌, refl, ap, sym, ◌∙◌, subst, arith, ◌<◌, ◌≤◌, ◌+◌, ◌*◌, length, Option, Some, None, IfSome, slice_get, slice_index_or, get_or}
+use Rattle.std.proofs.Common.{ℕ, suc, Bool, true, false, not, ◌||◌, ◌&&◌, ◌==◌, inl, inr, ◌⊎◌, List, [], ◌∷◌, filter, bytes_eq, ◌≡◌, ◌≢◌, refl, ap, sym, ◌∙◌, subst, arith, ◌<◌, ◌≤◌, ◌+◌, ◌*◌, length, Option, Some, None, IfSome, slice_get, slice_index_or, get_or}
 use Rattle.std.specs.List.{list_any, list_all}
 use Rattle.std.specs.List.Sorted.{IsPermutation}
 use Rattle.std.specs.Option.{option_to_list}
@@ -10,9 +10,8 @@ use Rattle.svc_base.specs.NumberSets.{is_in}
 use Rattle.svc_base.proofs.Logic.{clash}
 use Rattle.svc_graph.specs.declared.plan.EndpointPlan.{EndpointPlan}
 use Rattle.svc_record.specs.declared.plan.Plan.{Plan}
-use Rattle.svc_record.specs.declared.plan.ServicePlan.{ServicePlan}
 use Rattle.svc_record.specs.Record.{Record}
-use Rattle.svc_record.specs.Plans.{service_count, services, endpoints, address, same_address, names, declares, declares_list}
+use Rattle.svc_record.specs.Plans.{service_count, services, endpoints, address, same_address, names, declares}
 use Rattle.svc_endpoints.specs.declared.states.EndpointState.{EndpointState}
 use Rattle.svc_endpoints.specs.declared.states.EndpointStatus.{EndpointStatus}
 use Rattle.svc_endpoints.specs.declared.states.EndpointStatus.TheVariants.{Idle, Binding, AddressInUse, Adopting, Holding, AdoptionFailed}
@@ -21,7 +20,7 @@ use Rattle.svc_endpoints.specs.EndpointsData.{EndpointsData}
 use Rattle.svc_endpoints.specs.EndpointsState.{EndpointsStand, AreOnOffer, idle, last_at, failed_at, fd_of, is_done, numbers_of_table, numbers_with, open_numbers}
 use Rattle.svc_endpoints.specs.Effects.{first_of, passes, is_abandoned_by, is_done_for, goes, gone_numbers, cleared}
 use Rattle.svc_endpoints.specs.Failing.{AreListed, HasOwn, HasOwnLive, goes_among, left_among, gone_among}
-use Rattle.svc_endpoints.specs.Sums.{sum_of, AreShared}
+use Rattle.svc_endpoints.specs.Sums.{sum_of, is_listed, claims, AreShared}
 use Rattle.svc_endpoints.specs.declared.loops.LoopEnd.{LoopEnd}
 use Rattle.svc_endpoints.specs.Loops.{loop_count}
 use Rattle.svc_endpoints.specs.Uses.{has_held, uses, is_holder_by, is_user, is_drained_by}
@@ -92,9 +91,9 @@ module _ (p : Plan) (row : List EndpointState) (table : List Open) (s : ℕ) whe
 
 -- of live descriptors
 pub own-live : (p : Plan) (d : EndpointsData) (s : ℕ) (offered : Option ℕ) (row : List EndpointState) (numbers : List ℕ) → row ≡ slice_index_or d.rows s []
-    → length row ≡ length (endpoints p s) → declares_list p s ≡ false → HasOwn p row d.table s offered numbers → HasOwnLive p d s offered numbers
+    → length row ≡ length (endpoints p s) → ((a : List ℕ) → claims p s a ≡ false) → HasOwn p row d.table s offered numbers → HasOwnLive p d s offered numbers
 own-live p d s offered row numbers is size none has = record {
-  lists = λ y. absurd (clash (declares_list p s) y none);
+  claimed = λ a y. absurd (clash (claims p s a) y (none a));
   offer = λ x live h. has.offer x h;
   held = λ k x lt live h. has.held k x (omega arith) (ap (λ (r : List EndpointState). is_in x (fd_of (slice_index_or r k idle).last)) is ∙ h);
   named = λ k x lt live h. has.named k x (omega arith) h;
@@ -102,7 +101,7 @@ own-live p d s offered row numbers is size none has = record {
 
 pub all-live : (p : Plan) (d : EndpointsData) (s : ℕ) (offered : Option ℕ) → HasOwnLive p d s offered (open_numbers d)
 all-live p d s offered = record {
-  lists = λ y x live. live;
+  claimed = λ a y x live. live;
   offer = λ x live h. live;
   held = λ k x lt live h. live;
   named = λ k x lt live h. live;
@@ -121,37 +120,35 @@ pub find-address : (p : Plan) (s : ℕ) (a : List ℕ) → list_any (λ (x : End
     → (k : ℕ) × (k < length (endpoints p s)) × (address p s k ≡ Some a)
 find-address p s a h = find_named (endpoints p s) a h
 
-declared_lists : (p : Plan) (s : ℕ) (a : List ℕ) → declares p s a ≡ true → declares_list p s ≡ true
-declared_lists p s a h = by_service (slice_get p.services s) refl
-  where
-    by_service : (x : Option ServicePlan) → slice_get p.services s ≡ x → declares_list p s ≡ true
-    by_service (Some x) e = by_list x.declared refl
-      where
-        by_list : (l : Option (List (List ℕ))) → x.declared ≡ l → declares_list p s ≡ true
-        by_list (Some texts) f = rw (e, f) refl
-        by_list None f = absurd (let none = rw (e, f) at h in cc)
-    by_service None e = absurd (let none = rw e at h in cc)
+-- a service that names an address has an endpoint with it, or claims it
+named_how : (p : Plan) (s : ℕ) (a : List ℕ) → names p s a ≡ true → (is_listed (endpoints p s) a ≡ true) ⊎ (claims p s a ≡ true)
+named_how p s a h = elim (cases_Bool (is_listed (endpoints p s) a)) [
+  | inl y ↦ inl y
+  | inr n ↦ elim (or_cases (declares p s a) (is_listed (endpoints p s) a) h) [
+    | inl d ↦ inr (and_from (declares p s a) (not (is_listed (endpoints p s) a)) d (ap not n))
+    | inr y ↦ absurd (clash (is_listed (endpoints p s) a) y n)
+  ]
+]
 
--- where a service has failed that alone has the address, and no service declares a list, the address is abandoned
+-- where a service has failed that alone has an endpoint with the address, and no other claims it, the address is abandoned
 module _ (p : Plan) (d : EndpointsData) (s : ℕ) (a : List ℕ) (shared : AreShared p d.shared) (inside : s < service_count p)
-    (lists : (t : ℕ) → t < service_count p → declares_list p t ≡ false) (bad : failed_at d s ≡ true) (alone : is_in (sum_of a) d.shared ≡ false)
+    (bad : failed_at d s ≡ true) (alone : is_in (sum_of a) d.shared ≡ false)
     (named : list_any (λ (x : EndpointPlan). bytes_eq x.address a) (endpoints p s) ≡ true) where
   here : (k : ℕ) × (k < length (endpoints p s)) × (address p s k ≡ Some a)
   here = find-address p s a named
 
-  undeclared : (t : ℕ) → t < service_count p → declares p t a ≡ false
-  undeclared t lt = elim (cases_Bool (declares p t a)) [
-    | inl y ↦ absurd (clash (declares_list p t) (declared_lists p t a y) (lists t lt))
-    | inr n ↦ n
+  elsewhere : (t : ℕ) → t < service_count p → t ≢ s → names p t a ≡ true → is_in (sum_of a) d.shared ≡ true
+  elsewhere t lt ne y = elim (named_how p t a y) [
+    | inl has ↦ (let there = find-address p t a has in
+        shared.apart t there.0 s here.0 a (λ e. absurd (ne e)) (record { inside = lt; within = there.1; named = there.2 })
+        (record { inside = inside; within = here.1; named = here.2 }))
+    | inr claimed ↦ shared.claimed t a lt claimed
   ]
 
   unnamed : (t : ℕ) → t < service_count p → t ≢ s → names p t a ≡ false
-  unnamed t lt ne = elim (cases_Bool (list_any (λ (x : EndpointPlan). bytes_eq x.address a) (endpoints p t))) [
-    | inl y ↦ (let there = find-address p t a y in absurd
-        (clash (is_in (sum_of a) d.shared)
-        (shared t there.0 s here.0 a (λ e. absurd (ne e)) (record { inside = lt; within = there.1; named = there.2 })
-        (record { inside = inside; within = here.1; named = here.2 })) alone))
-    | inr n ↦ rw (undeclared t lt, n) refl
+  unnamed t lt ne = elim (cases_Bool (names p t a)) [
+    | inl y ↦ absurd (clash (is_in (sum_of a) d.shared) (elsewhere t lt ne y) alone)
+    | inr n ↦ n
   ]
 
   done_with : (t : ℕ) → t < service_count p → (not (names p t a) || failed_at d t) ≡ true
@@ -243,9 +240,9 @@ module _ (p : Plan) (d d2 : EndpointsData) (s i : ℕ) (offered : Option ℕ) (k
         | inr none ↦ absurd (clash (is_done_for p d.failed keep o)
             (and_from (passes (is_abandoned_by p d.failed) o.address) (not (is_in o.fd keep))
             (ap (passes (is_abandoned_by p d.failed)) some.1 ∙ sym (flags_same some.0 none) ∙ some.2) parts.1) before)
-        | inl named ↦ elim (or_cases (declares p s some.0) (list_any (λ (x : EndpointPlan). bytes_eq x.address some.0) (endpoints p s)) named) [
-          | inl lists ↦ has.lists (declared_lists p s some.0 lists) o.fd live
-          | inr there ↦ (let at = find-address p s some.0 there in
+        | inl named ↦ elim (named_how p s some.0 named) [
+          | inr claimed ↦ has.claimed some.0 claimed o.fd live
+          | inl there ↦ (let at = find-address p s some.0 there in
               has.named at.0 o.fd at.1 live
               (ap (λ (a : Option (List ℕ)). first_of (numbers_with d2.table a)) at.2
               ∙ ap (λ (t : List Open). first_of (numbers_with t (Some some.0))) table

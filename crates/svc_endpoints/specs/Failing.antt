@@ -6,12 +6,13 @@ use Rattle.svc_base.specs.NumberSets.{is_in}
 use Rattle.svc_record.specs.declared.plan.Plan.{Plan}
 use Rattle.svc_record.specs.declared.action.Action.{Action}
 use Rattle.svc_record.specs.declared.action.Action.TheVariants.{Close}
-use Rattle.svc_record.specs.Plans.{endpoints, address, declares_list}
+use Rattle.svc_record.specs.Plans.{endpoints, address}
 use Rattle.svc_endpoints.specs.declared.states.EndpointState.{EndpointState}
 use Rattle.svc_endpoints.specs.declared.table.Open.{Open}
 use Rattle.svc_endpoints.specs.EndpointsData.{EndpointsData}
 use Rattle.svc_endpoints.specs.EndpointsState.{idle, fd_of, last_at, numbers_of_table, numbers_with, open_numbers}
 use Rattle.svc_endpoints.specs.Effects.{first_of, goes}
+use Rattle.svc_endpoints.specs.Sums.{claims}
 
 -- the descriptor goes, and its number is one of these
 abbrev pub goes_among : Plan → List ℕ → EndpointsData → List ℕ → Open → Bool
@@ -36,9 +37,9 @@ pub record HasOwn (p : Plan) (row : List EndpointState) (table : List Open) (s :
   pub held : (k x : ℕ) → k < length row → is_in x (fd_of (slice_index_or row k idle).last) ≡ true → is_in x numbers ≡ true
   pub named : (k x : ℕ) → k < length row → first_of (numbers_with table (address p s k)) ≡ Some x → is_in x numbers ≡ true
 
--- the same of what is live; where s declares a list, all that is live is
+-- the same of what is live; where s declares an address that none of its endpoints has, all that is live is
 pub record HasOwnLive (p : Plan) (d : EndpointsData) (s : ℕ) (offered : Option ℕ) (numbers : List ℕ) : Type 0 where
-  pub lists : declares_list p s ≡ true → (x : ℕ) → is_in x (open_numbers d) ≡ true → is_in x numbers ≡ true
+  pub claimed : (a : List ℕ) → claims p s a ≡ true → (x : ℕ) → is_in x (open_numbers d) ≡ true → is_in x numbers ≡ true
   pub offer : (x : ℕ) → is_in x (open_numbers d) ≡ true → is_in x (option_to_list offered) ≡ true → is_in x numbers ≡ true
   pub held : (k x : ℕ) → k < length (endpoints p s) → is_in x (open_numbers d) ≡ true → is_in x (fd_of (last_at d s k)) ≡ true → is_in x numbers ≡ true
   pub named : (k x : ℕ) → k < length (endpoints p s) → is_in x (open_numbers d) ≡ true → first_of (numbers_with d.table (address p s k)) ≡ Some x

@@ -6,7 +6,7 @@ ghost use Rattle.svc_base.specs.Items.{list_of, spare};
 ghost use Rattle.svc_endpoints.specs.EndpointsState.{all_new};
 ghost use Rattle.svc_endpoints.specs.Effects.{put_numbers};
 
-use svc_base::NumberSet;
+use svc_base::NumberRanges;
 
 /// The number stands in the list.
 pub(crate) fn contains(list: &[u64], fd: u64) -> bool
@@ -16,7 +16,7 @@ pub(crate) fn contains(list: &[u64], fd: u64) -> bool
 }
 
 /// Takes new numbers.
-pub(crate) fn add_all(numbers: &mut NumberSet, fds: &[u64])
+pub(crate) fn add_all(numbers: &mut NumberRanges, fds: &[u64])
     requires new { all_new (list_of numbers.old) fds.now ≡ true }
     requires room { length fds.now ≤ spare numbers.old }
     ensures { list_of numbers.new ≡ put_numbers fds.now (list_of numbers.old) }

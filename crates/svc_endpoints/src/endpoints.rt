@@ -30,7 +30,7 @@ use crate::table::{Open, Table};
 use crate::uses::{Share, Uses, holder_share, share_of};
 use std::alloc::Global;
 use std::marker::Model;
-use svc_base::{NoMemory, NumberSet, Text};
+use svc_base::{NoMemory, NumberRanges, NumberSet, Text};
 use svc_graph::Bits;
 use svc_record::{Action, Actions, Plan};
 
@@ -45,7 +45,7 @@ pub struct Endpoints {
     failed: Vec<bool>,
     loops: Loops,
     table: Table,
-    came: NumberSet,
+    came: NumberRanges,
     shared: NumberSet,
     tasks: u64,
     uses: Uses,
@@ -168,7 +168,7 @@ impl Endpoints {
         let failed = new_flags(alloc, service_count(plan))?;
         let loops = Loops::new(alloc, plan)?;
         let table = Table::new(alloc);
-        let came = NumberSet::new(alloc);
+        let came = NumberRanges::new(alloc);
         let shared = shared_sums(alloc, plan)?;
         let uses = Uses::new(alloc);
         let busy = no_bits(alloc)?;

@@ -8,7 +8,7 @@ ghost use Rattle.svc_base.specs.Blocks.{rises_by};
 ghost use Rattle.svc_base.specs.Items.{list_of, spare};
 ghost use Rattle.svc_base.specs.NumberSets.{distinct};
 ghost use Rattle.svc_record.specs.declared.action.Action.TheVariants.{Close};
-ghost use Rattle.svc_record.specs.Plans.{service_count, endpoints, declares_list};
+ghost use Rattle.svc_record.specs.Plans.{service_count, endpoints};
 ghost use Rattle.svc_endpoints.specs.declared.table.Open.{Open};
 ghost use Rattle.svc_endpoints.specs.EndpointsState.{IsEndpointsSized, open_numbers};
 ghost use Rattle.svc_endpoints.specs.Effects.{is_abandoned_by, passes};
@@ -16,7 +16,7 @@ ghost use Rattle.svc_endpoints.specs.Failing.{AreListed, HasOwn, ClosesOwn, goes
 
 use crate::came::contains;
 use crate::endpoints::Endpoints;
-use crate::naming::{address_of, any_list, endpoints_of, has_endpoint};
+use crate::naming::{address_of, claims_none, endpoints_of, has_endpoint};
 use crate::states::{Row, fd_of};
 use crate::table::{Open, Table};
 use svc_record::{Actions, Plan};
@@ -68,8 +68,8 @@ fn own_numbers(plan: &Plan, row: &Row, table: &Table, s: usize, offered: Option<
 
 impl Endpoints {
     /// Closes what nobody needs any more since the service failed, but for what is kept. Only what its
-    /// endpoints have can go by that, what has their addresses, and what it was offered; where a service
-    /// declares a list, each live descriptor is looked at.
+    /// endpoints have can go by that, what has their addresses, and what it was offered; where it claims
+    /// an address that none of them has, each live descriptor is looked at.
     pub(crate) fn close_own(
         &mut self,
         plan: &Plan,
@@ -83,7 +83,7 @@ impl Endpoints {
         requires room { length self.old.parts.table ≤ spare actions.old }
         ensures { ClosesOwn [] plan.now kept.now s offered self.old.parts self.new.parts actions.old actions.new }
     {
-        if any_list(plan) {
+        if !claims_none(plan, s as usize) {
             self.clear(plan, kept, actions);
             return;
         }
@@ -96,7 +96,6 @@ impl Endpoints {
     fn close_among(&mut self, plan: &Plan, s: u32, own: &[u64], kept: &[u64], actions: &mut Actions)
         requires sized { IsEndpointsSized plan.now self.old.parts }
         requires service { s < service_count plan.now }
-        requires lists { (t : ℕ) → t < service_count plan.now → declares_list plan.now t ≡ false }
         requires rise { IsNonDecreasing own.now }
         requires room { length self.old.parts.table ≤ spare actions.old }
         ensures left { self.new.parts ≡ left_among plan.now kept.now own.now self.old.parts }
@@ -112,7 +111,6 @@ impl Endpoints {
     fn close_if_gone(&mut self, plan: &Plan, s: u32, fd: u64, kept: &[u64], actions: &mut Actions)
         requires sized { IsEndpointsSized plan.now self.old.parts }
         requires service { s < service_count plan.now }
-        requires lists { (t : ℕ) → t < service_count plan.now → declares_list plan.now t ≡ false }
         requires room { length self.old.parts.table ≤ spare actions.old }
         ensures left { self.new.parts ≡ left_among plan.now kept.now (fd ∷ []) self.old.parts }
         ensures told { list_of actions.new ≡ list_of actions.old ++ map Close (gone_among plan.now kept.now (fd ∷ []) self.old.parts) }
@@ -128,7 +126,6 @@ impl Endpoints {
     fn goes(&self, plan: &Plan, s: u32, fd: u64, kept: &[u64]) -> bool
         requires sized { IsEndpointsSized plan.now self.now.parts }
         requires service { s < service_count plan.now }
-        requires lists { (t : ℕ) → t < service_count plan.now → declares_list plan.now t ≡ false }
         ensures is { result ≡ list_any (goes_among plan.now kept.now self.now.parts (fd ∷ [])) self.now.parts.table }
         ensures once { distinct (open_numbers self.now.parts) ≡ true }
         ensures rise { rises_by (λ (o : Open). o.fd) self.now.parts.table ≡ true }
@@ -145,7 +142,6 @@ impl Endpoints {
     fn is_left(&self, plan: &Plan, s: u32, entry: &Open) -> bool
         requires sized { IsEndpointsSized plan.now self.now.parts }
         requires service { s < service_count plan.now }
-        requires lists { (t : ℕ) → t < service_count plan.now → declares_list plan.now t ≡ false }
         ensures { result ≡ passes (is_abandoned_by plan.now self.now.parts.failed) entry.now.address }
     {
         match &entry.address {
@@ -156,11 +152,10 @@ impl Endpoints {
         }
     }
 
-    /// The service has failed, and it alone has endpoints with the address.
+    /// The service has failed, and it alone has an endpoint with the address, which no other service claims.
     fn is_left_alone(&self, plan: &Plan, s: u32, address: &str) -> bool
         requires sized { IsEndpointsSized plan.now self.now.parts }
         requires service { s < service_count plan.now }
-        requires lists { (t : ℕ) → t < service_count plan.now → declares_list plan.now t ≡ false }
         ensures { result ≡ true → is_abandoned_by plan.now self.now.parts.failed address.now ≡ true }
     {
         if !self.has_failed(s as usize) || self.may_share(address) {

@@ -1,10 +1,11 @@
 //! What a plan says of endpoints, and which services name an address.
 
-ghost use Rattle.std.specs.Prelude.{◌≡◌, ◌<◌, ◌≤◌, not, ◌&&◌, ◌||◌, length, Some, bytes_eq, slice_index_or, false, ℕ};
+ghost use Rattle.std.specs.Prelude.{◌≡◌, ◌<◌, ◌≤◌, not, ◌&&◌, ◌||◌, length, List, Some, bytes_eq, slice_index_or, true, false, ℕ};
 ghost use Rattle.std.specs.List.{list_any, list_all};
 ghost use Rattle.svc_graph.specs.declared.plan.EndpointPlan.{EndpointPlan};
 ghost use Rattle.svc_record.specs.Plans.{service_count, services, endpoints, address, names, declares, declares_list, is_among, is_unclaimed};
 ghost use Rattle.svc_record.specs.Failed.{in_use_limit};
+ghost use Rattle.svc_endpoints.specs.Sums.{is_listed, claims};
 
 use svc_base::Text;
 use svc_graph::EndpointPlan;
@@ -99,16 +100,37 @@ pub(crate) fn has_endpoint(list: &[EndpointPlan], address: &str) -> bool
     false
 }
 
-/// Some service declares a list.
-pub(crate) fn any_list(plan: &Plan) -> bool
-    ensures { result ≡ false → (s : ℕ) → s < service_count plan.now → declares_list plan.now s ≡ false }
+/// One of the endpoints has the address. Mostly it is the one at the place.
+pub(crate) fn is_listed(list: &[EndpointPlan], at: usize, address: &str) -> bool
+    ensures { result ≡ is_listed list.now address.now }
 {
-    for s in 0..service_count(plan) {
-        if declares_list(plan, s) {
-            return true;
+    if at < list.len() && list[at].address.as_str() == address {
+        return true;
+    }
+    has_endpoint(list, address)
+}
+
+/// One of the endpoints has each of the addresses.
+fn are_listed(list: &[EndpointPlan], texts: &[Text]) -> bool
+    ensures { result ≡ true → (a : List ℕ) → is_among a texts.now ≡ true → is_listed list.now a ≡ true }
+{
+    for k in 0..texts.len() {
+        if !is_listed(list, k, texts[k].as_str()) {
+            return false;
         }
     }
-    false
+    true
+}
+
+/// The service declares no address but those of its endpoints.
+pub(crate) fn claims_none(plan: &Plan, s: usize) -> bool
+    requires { s < service_count plan.now }
+    ensures { result ≡ true → (a : List ℕ) → claims plan.now s a ≡ false }
+{
+    match &plan.services.as_slice()[s].declared {
+        Some(texts) => are_listed(endpoints_of(plan, s), texts.as_slice()),
+        None => true,
+    }
 }
 
 /// The service declares the address, or has an endpoint with it.

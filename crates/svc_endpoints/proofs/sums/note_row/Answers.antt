@@ -15,5 +15,6 @@ loop-i-preserved c =
 pub returns : goal.returns
 returns c =
     let end : c.loop-i.i ≡ length (endpoints c.args.plan.now c.args.s) = (let e = c.endpoint_count-i-end.ensures in omega arith) in
-    noted-row c.args.plan.now c.args.s (list_of c.loop-i.seen) (list_of c.loop-i.shared)
+    noted-row c.args.plan.now c.args.s (list_of c.loop-i.seen) (list_of c.loop-i.shared) (list_of c.note_claims.new.shared)
+    c.in_ok-note_claims.ensures.claimed c.in_ok-note_claims.ensures.kept
     (subst (λ n. AreNoted c.args.plan.now c.args.s n (list_of c.loop-i.seen) (list_of c.loop-i.shared)) end c.loop-i.invariant)

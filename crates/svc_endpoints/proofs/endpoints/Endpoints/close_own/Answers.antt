@@ -7,8 +7,8 @@ use Rattle.svc_endpoints.specs.Failing.{HasOwn}
 use Rattle.svc_endpoints.proofs.OwnLemmas.{all-live, own-live, live-left, live-gone}
 use Rattle.svc_endpoints.proofs.endpoints.Endpoints.close_own.Goals as goal
 
-pub returns-then-any_list : goal.returns-then-any_list
-returns-then-any_list c =
+pub returns-then-not-claims_none : goal.returns-then-not-claims_none
+returns-then-not-claims_none c =
     let d = c.args.self.now.parts in
     record {
       own = open_numbers d;
@@ -24,7 +24,7 @@ returns c =
     record {
       own = c.own_numbers-own.result;
       has = own-live c.args.plan.now d c.args.s c.args.offered c.row-row.result.now c.own_numbers-own.result c.row-row.ensures
-          (ap length c.row-row.ensures ∙ c.requires.sized.each c.args.s c.requires.service) (c.any_list.ensures c.if-any_list.false c.args.s c.requires.service)
+          (ap length c.row-row.ensures ∙ c.requires.sized.each c.args.s c.requires.service) (c.claims_none.ensures c.if-not-claims_none.false)
           (subst (λ (t : List Open). HasOwn c.args.plan.now c.row-row.result.now t c.args.s c.args.offered c.own_numbers-own.result) c.table.ensures
           c.own_numbers-own.ensures.own);
       left = c.close_among.ensures.left;
