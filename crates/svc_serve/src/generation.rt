@@ -171,7 +171,7 @@ impl<'a> Generation<'a> {
 
     /// Runs it, to its end.
     pub(crate) fn run<R: Wait>(self, ground: &Ground<'a, R>) -> Ended
-        ensures { result.number ≡ self.number }
+        ensures { result.number ≡ self.entry.number }
     {
         let Generation {
             number,
