@@ -1,13 +1,15 @@
 //! An echo server over epoll with one thread, and the clients that ask it and others: built by `rustc -O plain.rs`.
 //!
 //! plain serve PORT; plain new PORT SECONDS THREADS; plain open PORT SECONDS CONNECTIONS; plain bulk PORT MEGABYTES;
-//! plain times PORT ASKS; plain hold PORT CONNECTIONS. Each client prints one line of numbers.
+//! plain times PORT ASKS; plain hold PORT CONNECTIONS; plain lost PORT CLIENTS, which ask on new connections until standard
+//! input ends. Each client prints one line of numbers.
 
 use std::collections::HashMap;
 use std::env;
-use std::io::{ErrorKind, Read, Write};
+use std::io::{ErrorKind, Read, Write, stdin};
 use std::net::{SocketAddr, TcpListener, TcpStream};
 use std::os::fd::{AsRawFd, RawFd};
+use std::sync::atomic::{AtomicBool, Ordering};
 use std::thread;
 use std::time::{Duration, Instant};
 
@@ -107,6 +109,45 @@ fn ask(stream: &mut TcpStream) {
     assert_eq!(&answer, b"word");
 }
 
+/// Asks once on a new connection, which may take ten seconds at each step. Answers whether the word came back.
+fn is_answered(port: u16) -> bool {
+    let patience = Duration::from_secs(10);
+    let mut answer = [0u8; 4];
+    let asked = TcpStream::connect_timeout(&SocketAddr::from(([127, 0, 0, 1], port)), patience).and_then(|mut stream| {
+        stream.set_read_timeout(Some(patience))?;
+        stream.write_all(b"word")?;
+        stream.read_exact(&mut answer)
+    });
+    asked.is_ok() && &answer == b"word"
+}
+
+/// How many asks so many clients make until standard input ends, how many of them are lost, and the longest one's
+/// milliseconds.
+fn lost(port: u16, clients: usize) -> (u64, u64, u128) {
+    let is_over = AtomicBool::new(false);
+    thread::scope(|scope| {
+        let started: Vec<_> = (0..clients)
+            .map(|_| {
+                scope.spawn(|| {
+                    let (mut asked, mut lost, mut longest) = (0, 0, 0);
+                    while !is_over.load(Ordering::SeqCst) {
+                        let begun = Instant::now();
+                        asked += 1;
+                        lost += u64::from(!is_answered(port));
+                        longest = longest.max(begun.elapsed().as_millis());
+                    }
+                    (asked, lost, longest)
+                })
+            })
+            .collect();
+        let _ = stdin().read(&mut [0u8; 1]);
+        is_over.store(true, Ordering::SeqCst);
+        started.into_iter().map(|thread| thread.join().expect("a thread")).fold((0, 0, 0), |all, one| {
+            (all.0 + one.0, all.1 + one.1, all.2.max(one.2))
+        })
+    })
+}
+
 /// How many asks a second so many threads make, each by a function that is called until the time is over.
 fn rate(seconds: f64, threads: usize, make: impl Fn() -> Box<dyn FnMut()> + Sync) -> f64 {
     let begun = Instant::now();
@@ -189,10 +230,14 @@ fn main() {
             let (middle, late) = times(port, number(2) as usize);
             println!("{middle} {late}");
         }
+        "lost" => {
+            let (asked, lost, longest) = lost(port, number(2) as usize);
+            println!("{asked} {lost} {longest}");
+        }
         "hold" => {
             let held: Vec<TcpStream> = (0..number(2) as usize).map(|_| connected(port)).collect();
             println!("{}", held.len());
-            let _ = std::io::stdin().read(&mut [0u8; 1]);
+            let _ = stdin().read(&mut [0u8; 1]);
         }
         _ => panic!("no such word"),
     }

@@ -37,6 +37,7 @@ pub use settings::{Setting, TcpKeepalive};
 pub use sink::{MemorySink, Put, Sink, SteadySink, WriteFault, Writing, write_all};
 pub use source::{
     MemorySource, READ_LIMIT, ReadAllError, Reading, Source, SteadySource, Taken, read_all,
+    read_to_end,
 };
 pub use status::Status;
 pub use text::Text;

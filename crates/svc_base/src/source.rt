@@ -1,4 +1,4 @@
-ghost use Rattle.std.specs.Prelude.{◌≡◌, ℕ, ◌+◌, ◌<◌, ◌≤◌, List, length, drop, vec_len, Option, IfOk, IfSome, OnOk, IsErrOf};
+ghost use Rattle.std.specs.Prelude.{◌≡◌, ℕ, ◌+◌, ◌<◌, ◌≤◌, List, [], length, drop, vec_len, Option, IfOk, IfSome, OnOk, IsErrOf};
 ghost use Rattle.std.specs.Io.KnownBytes.{Consumes, IsAtEnd};
 ghost use Rattle.svc_base.specs.Streams.{Rose, ReadFits, taken_bytes, EndsRight, ReadFaults};
 
@@ -6,7 +6,7 @@ use std::alloc::{AllocError, Global};
 use std::io::Read;
 use thiserror::Error;
 
-/// The most bytes that `read_all` takes.
+/// The most bytes that `read_to_end` and `read_all` take.
 pub const READ_LIMIT: usize = 16_777_216;
 
 /// What one call of a source gives.
@@ -65,6 +65,27 @@ impl From<AllocError> for ReadAllError {
     }
 }
 
+/// Reads to the end. What was read stands in the list, unless memory ran out.
+pub fn read_to_end<S: Source>(source: &mut S, bytes: &mut Vec<u8>) -> Result<(), ReadAllError>
+    requires { bytes.old.items ≡ [] }
+    ensures whole { OnOk result (IfSome (S.left source.old) (λ all. bytes.new.items ≡ all)) }
+    ensures ended { OnOk result (IsAtEnd (S.left source.new)) }
+    ensures short { OnOk result (length bytes.new.items ≤ 16777216) }
+    ensures fault { IsErrOf result ReadAllError.Fault → Rose (S.faulted source.old) (S.faulted source.new) }
+    ensures too_long { IsErrOf result ReadAllError.TooLong → IfSome (S.left source.old) (λ all. 16777216 < length all) }
+    ensures kept { (IsErrOf result ReadAllError.NoMemory → ⊥) → Consumes (S.left source.old) (S.left source.new) bytes.new.items }
+{
+    let mut buffer = [0u8; 4096];
+    while bytes.len() <= READ_LIMIT {
+        match source.read(&mut buffer) {
+            Taken::Got(count) => bytes.extend_from_slice(&buffer[..count])?,
+            Taken::End => return Ok(()),
+            Taken::Failed => return Err(ReadAllError::Fault),
+        }
+    }
+    Err(ReadAllError::TooLong)
+}
+
 /// Reads to the end.
 pub fn read_all<S: Source>(alloc: Global, source: &mut S) -> Result<Vec<u8>, ReadAllError>
     ensures whole { IfOk result (λ v. IfSome (S.left source.old) (λ bytes. v.items ≡ bytes)) }
@@ -74,15 +95,8 @@ pub fn read_all<S: Source>(alloc: Global, source: &mut S) -> Result<Vec<u8>, Rea
     ensures too_long { IsErrOf result ReadAllError.TooLong → IfSome (S.left source.old) (λ bytes. 16777216 < length bytes) }
 {
     let mut bytes = Vec::new(alloc);
-    let mut buffer = [0u8; 4096];
-    while bytes.len() <= READ_LIMIT {
-        match source.read(&mut buffer) {
-            Taken::Got(count) => bytes.extend_from_slice(&buffer[..count])?,
-            Taken::End => return Ok(bytes),
-            Taken::Failed => return Err(ReadAllError::Fault),
-        }
-    }
-    Err(ReadAllError::TooLong)
+    read_to_end(source, &mut bytes)?;
+    Ok(bytes)
 }
 
 /// A source over bytes in memory. The calls whose numbers, from 0, are listed fail.

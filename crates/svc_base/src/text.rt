@@ -37,6 +37,7 @@ impl Text {
         Ok(Text { inner })
     }
 
+    /// Its characters.
     pub fn as_str(&self) -> &str
         ensures { result.now ≡ self.now }
     {

@@ -1,12 +1,12 @@
 -- The run of a schedule: how it begins, how it grows by a step, and what it gives.
-use Rattle.std.proofs.Common.{ℕ, Bool, true, false, ◌+◌, ◌<◌, List, [], ◌∷◌, ◌++◌, ◌≡◌, ◌&&◌, ◌↔◌, suc, refl, ap, sym, ◌∙◌, subst, arith, length, take, drop, get_or, append_assoc, drop-cons, if◌then◌else◌}
+use Rattle.std.proofs.Common.{ℕ, Bool, true, false, ◌+◌, ◌<◌, List, [], ◌∷◌, ◌++◌, ◌≡◌, ◌&&◌, ◌↔◌, suc, refl, ap, sym, ◌∙◌, subst, arith, length, take, drop, get_or, drop-cons, if◌then◌else◌}
 use Rattle.std.specs.Prelude.{reverse, Result, Ok, Err, Option, Some, None}
-use Rattle.std.proofs.lemmas.List.{append-nil, reverse-append, reverse-reverse, take-append-drop, length-take-le}
-use Rattle.svc_base.specs.Items.{list_of}
+use Rattle.std.proofs.lemmas.List.{reverse-reverse, take-append-drop, length-take-le}
 use Rattle.svc_record.specs.declared.plan.Plan.{Plan}
 use Rattle.svc_record.specs.declared.action.Action.{Action}
+use Rattle.svc_record.specs.declared.action.StepEnd.{StepEnd}
 use Rattle.svc_record.specs.declared.entry.Entry.{Entry}
-use Rattle.svc_record.specs.declared.entry.Entry.TheVariants.{Got, Told}
+use Rattle.svc_record.specs.declared.entry.Entry.TheVariants.{Got}
 use Rattle.svc_record.specs.Record.{Record, tell}
 use Rattle.svc_record.specs.Judging.{judged_at, judgements}
 use Rattle.svc_record.specs.Right.{Right}
@@ -14,30 +14,24 @@ use Rattle.svc_record.specs.Fits.{Fits, fits}
 use Rattle.svc_record.specs.declared.event.Event.{Event}
 use Rattle.svc_core.specs.Stands.{Represents}
 use Rattle.svc_core.specs.CoreData.{CoreData}
+use Rattle.svc_session.specs.SessionData.{SessionData}
+use Rattle.svc_session.specs.Sessions.{Begins, Takes}
+use Rattle.svc_session.proofs.SessionLemmas.{begun-record, taken-record}
 use Rattle.svc_handover.specs.declared.pair.PairStep.{PairStep}
 use Rattle.svc_handover.specs.declared.pair.ChannelState.{ChannelState}
 use Rattle.svc_handover.specs.declared.pair.ChannelState.TheVariants.{Missing}
 use Rattle.svc_handover.specs.declared.pair.PairRun.{PairRun}
 use Rattle.svc_handover.specs.declared.pair.PairRefused.{PairRefused}
 use Rattle.svc_handover.specs.declared.pair.PairRefused.TheVariants.{Stray, NoMemory}
-use Rattle.svc_handover.specs.declared.recorded.Recorded.{Recorded}
 use Rattle.svc_handover.specs.declared.servers.Servers.{Servers}
 use Rattle.svc_handover.specs.Channel.{after_old, after_new, after_told}
 use Rattle.svc_handover.specs.Pair.{World, PairMove, first_world, old_step, new_step, pair_step, world_after, is_allowed, IsAsSaid}
 use Rattle.svc_handover.specs.Handover.{IsKept}
 use Rattle.svc_handover.specs.Operator.{KeepsReachable}
 use Rattle.svc_handover.specs.Law.{PairStands, HasTexts, Gives, RefusesAt}
-use Rattle.svc_handover.specs.Runs.{told_entries, Begins, Takes, Runs, Grows}
+use Rattle.svc_handover.specs.Runs.{Runs, Grows}
 use Rattle.svc_handover.proofs.LawLemmas.{law-holds, stands-first, stands-old, stands-new, world-more, allowed-more, each-more, said-more, steps-more}
 use Rattle.svc_handover.proofs.OperatorLaw.{keeps-reachable}
-
--- a list of entries and what was told after it, the newest first
-pub turned-told : (xs : List Entry) (told : List Action) → reverse (xs ++ told_entries told) ≡ tell (reverse xs) told
-turned-told xs [] = ap (λ (ys : List Entry). reverse ys) (append-nil xs)
-turned-told xs (a ∷ told) =
-    ap (λ (ys : List Entry). reverse ys) (sym (append_assoc xs (Told a ∷ []) (told_entries told)))
-    ∙ turned-told (xs ++ Told a ∷ []) told
-    ∙ ap (λ (r : Record). tell r told) (reverse-append xs (Told a ∷ []))
 
 -- both laws, in a world
 abbrev pub Laws : Plan → Plan → World → Type 0
@@ -77,8 +71,8 @@ runs-first p n servers told_old told_new by_old by_new channel texts =
       stands = stands;
       old_plan = by_old.plan_is;
       new_plan = by_new.plan_is;
-      old_is = ap (λ (xs : List Entry). reverse xs) by_old.entries ∙ turned-told [] told_old ∙ ap (tell []) by_old.begun.appended;
-      new_is = ap (λ (xs : List Entry). reverse xs) by_new.entries ∙ turned-told [] told_new ∙ ap (tell []) by_new.begun.appended;
+      old_is = begun-record p servers.predecessor told_old by_old;
+      new_is = begun-record n servers.successor told_new by_new;
       channel_is = channel ∙ ap (λ t. after_told t Missing) by_new.begun.appended;
     }
 
@@ -112,8 +106,8 @@ fit b f m k x y z = grind arith
 grows-by : (p n : Plan) (before : List PairStep) (old new : Servers) (runs : Runs p n before old) (m : PairMove) → is_allowed p n runs.world m.step ≡ true
     → IsAsSaid p n m
     → PairStands new.predecessor.core new.successor.core (pair_step runs.world m.step m.told) → new.predecessor.core.plan ≡ p → new.successor.core.plan ≡ n
-    → reverse (list_of new.predecessor.entries) ≡ (pair_step runs.world m.step m.told).old
-    → reverse (list_of new.successor.entries) ≡ (pair_step runs.world m.step m.told).new → new.channel ≡ (pair_step runs.world m.step m.told).channel
+    → reverse new.predecessor.entries ≡ (pair_step runs.world m.step m.told).old
+    → reverse new.successor.entries ≡ (pair_step runs.world m.step m.told).new → new.channel ≡ (pair_step runs.world m.step m.told).channel
     → Runs p n (before ++ m.step ∷ []) new
 grows-by p n before old new runs m allowed said stands old_plan new_plan old_is new_is channel =
     let l = runs.over.leaves in
@@ -146,57 +140,53 @@ grows-by p n before old new runs m allowed said stands old_plan new_plan old_is 
       channel_is = channel;
     }
 
--- the record of a server that took a step
-pub taken-entries : (old new : Recorded) (step : PairStep) (told : List Action) (q : Record) (t : Takes old new step told) → reverse (list_of old.entries) ≡ q
-    → reverse (list_of new.entries) ≡ tell (Got step.event ∷ q) t.keeps.told
-taken-entries old new step told q t same =
-    ap (λ (xs : List Entry). reverse xs) t.entries
-    ∙ turned-told (list_of old.entries ++ Got step.event ∷ []) told
-    ∙ ap (λ (r : Record). tell r told) (reverse-append (list_of old.entries) (Got step.event ∷ []) ∙ ap (λ (r : Record). Got step.event ∷ r) same)
-    ∙ ap (tell (Got step.event ∷ q)) t.keeps.appended
-
 -- a step of the old server
-pub grows-old : (old new : Servers) (step : PairStep) (told : List Action) → step.old ≡ true → Takes old.predecessor new.predecessor step told
-    → new.successor ≡ old.successor → new.channel ≡ after_old step.event old.channel → Grows old new step
-grows-old old new step told side t same channel p n before runs allowed =
+pub grows-old : (old new : Servers) (step : PairStep) (end : StepEnd) (told : List Action) → step.old ≡ true
+    → Takes old.predecessor new.predecessor step.event step.said end told → new.successor ≡ old.successor
+    → new.channel ≡ after_old step.event old.channel → Grows old new step
+grows-old old new step end told side t same channel p n before runs allowed =
     let w : World = runs.world in
     let moved : pair_step w step t.keeps.told ≡ old_step w step t.keeps.told =
     ap (λ b. if b then old_step w step t.keeps.told else new_step w step t.keeps.told) side in
     let may : is_allowed old.predecessor.core.plan old.successor.core.plan w step ≡ true =
     ap (λ x. is_allowed x old.successor.core.plan w step) runs.old_plan ∙ ap (λ y. is_allowed p y w step) runs.new_plan ∙ allowed in
     let stood : PairStands new.predecessor.core old.successor.core (old_step w step t.keeps.told) =
-    stands-old old.predecessor.core new.predecessor.core old.successor.core w step [] told t.end side t.plan_is runs.stands may t.keeps in
+    stands-old old.predecessor.core new.predecessor.core old.successor.core w step [] told end side t.plan_is runs.stands may t.keeps in
     let stands : PairStands new.predecessor.core new.successor.core (pair_step w step t.keeps.told) =
     subst (λ v. PairStands new.predecessor.core new.successor.core v) (sym moved)
-    (subst (λ (r : Recorded). PairStands new.predecessor.core r.core (old_step w step t.keeps.told)) (sym same) stood) in
+    (subst (λ (r : SessionData). PairStands new.predecessor.core r.core (old_step w step t.keeps.told)) (sym same) stood) in
     let said : judgements t.keeps.told ≡ judged_at (if step.old then p else n) step.event step.said =
     ap judgements (sym t.keeps.appended) ∙ t.judged ∙ ap (λ x. judged_at x step.event step.said) (runs.old_plan ∙ sym (ap (λ b. if b then p else n) side)) in
     grows-by p n before old new runs (record { step = step; told = t.keeps.told }) allowed said stands (t.plan_is ∙ runs.old_plan)
-    (ap (λ (r : Recorded). r.core.plan) same ∙ runs.new_plan)
-    (taken-entries old.predecessor new.predecessor step told w.old t runs.old_is ∙ ap (λ (v : World). v.old) (sym moved))
-    (ap (λ (r : Recorded). reverse (list_of r.entries)) same ∙ runs.new_is ∙ ap (λ (v : World). v.new) (sym moved))
+    (ap (λ (r : SessionData). r.core.plan) same ∙ runs.new_plan)
+    (taken-record old.predecessor new.predecessor step.event step.said end told t ∙ ap (λ (q : Record). tell (Got step.event ∷ q) t.keeps.told) runs.old_is
+    ∙ ap (λ (v : World). v.old) (sym moved))
+    (ap (λ (r : SessionData). reverse r.entries) same ∙ runs.new_is ∙ ap (λ (v : World). v.new) (sym moved))
     (channel ∙ ap (after_old step.event) runs.channel_is ∙ ap (λ (v : World). v.channel) (sym moved))
 
 -- a step of the new server
-pub grows-new : (old new : Servers) (step : PairStep) (told : List Action) → step.old ≡ false → Takes old.successor new.successor step told
-    → new.predecessor ≡ old.predecessor → new.channel ≡ after_told told (after_new step.event old.channel) → Grows old new step
-grows-new old new step told side t same channel p n before runs allowed =
+pub grows-new : (old new : Servers) (step : PairStep) (end : StepEnd) (told : List Action) → step.old ≡ false
+    → Takes old.successor new.successor step.event step.said end told → new.predecessor ≡ old.predecessor
+    → new.channel ≡ after_told told (after_new step.event old.channel) → Grows old new step
+grows-new old new step end told side t same channel p n before runs allowed =
     let w : World = runs.world in
     let moved : pair_step w step t.keeps.told ≡ new_step w step t.keeps.told =
     ap (λ b. if b then old_step w step t.keeps.told else new_step w step t.keeps.told) side in
     let may : is_allowed old.predecessor.core.plan old.successor.core.plan w step ≡ true =
     ap (λ x. is_allowed x old.successor.core.plan w step) runs.old_plan ∙ ap (λ y. is_allowed p y w step) runs.new_plan ∙ allowed in
     let stood : PairStands old.predecessor.core new.successor.core (new_step w step t.keeps.told) =
-    stands-new old.predecessor.core old.successor.core new.successor.core w step [] told t.end side runs.stands may t.keeps in
+    stands-new old.predecessor.core old.successor.core new.successor.core w step [] told end side runs.stands may t.keeps in
     let stands : PairStands new.predecessor.core new.successor.core (pair_step w step t.keeps.told) =
     subst (λ v. PairStands new.predecessor.core new.successor.core v) (sym moved)
-    (subst (λ (r : Recorded). PairStands r.core new.successor.core (new_step w step t.keeps.told)) (sym same) stood) in
+    (subst (λ (r : SessionData). PairStands r.core new.successor.core (new_step w step t.keeps.told)) (sym same) stood) in
     let said : judgements t.keeps.told ≡ judged_at (if step.old then p else n) step.event step.said =
     ap judgements (sym t.keeps.appended) ∙ t.judged ∙ ap (λ x. judged_at x step.event step.said) (runs.new_plan ∙ sym (ap (λ b. if b then p else n) side)) in
-    grows-by p n before old new runs (record { step = step; told = t.keeps.told }) allowed said stands (ap (λ (r : Recorded). r.core.plan) same ∙ runs.old_plan)
+    grows-by p n before old new runs (record { step = step; told = t.keeps.told })
+    allowed said stands (ap (λ (r : SessionData). r.core.plan) same ∙ runs.old_plan)
     (t.plan_is ∙ runs.new_plan)
-    (ap (λ (r : Recorded). reverse (list_of r.entries)) same ∙ runs.old_is ∙ ap (λ (v : World). v.old) (sym moved))
-    (taken-entries old.successor new.successor step told w.new t runs.new_is ∙ ap (λ (v : World). v.new) (sym moved))
+    (ap (λ (r : SessionData). reverse r.entries) same ∙ runs.old_is ∙ ap (λ (v : World). v.old) (sym moved))
+    (taken-record old.successor new.successor step.event step.said end told t ∙ ap (λ (q : Record). tell (Got step.event ∷ q) t.keeps.told) runs.new_is
+    ∙ ap (λ (v : World). v.new) (sym moved))
     (channel ∙ ap (after_told told) (ap (after_new step.event) runs.channel_is) ∙ ap (λ t. after_told t (after_new step.event w.channel)) t.keeps.appended
     ∙ ap (λ (v : World). v.channel) (sym moved))
 
@@ -218,13 +208,13 @@ refuses p n schedule servers index step inside here runs refused k place = recor
 
 -- what the whole schedule leaves
 pub gives : (p n : Plan) (schedule : List PairStep) (servers : Servers) (old new : List Entry) (channel : ChannelState) → Runs p n schedule servers
-    → old ≡ list_of servers.predecessor.entries → new ≡ list_of servers.successor.entries → channel ≡ servers.channel
+    → old ≡ servers.predecessor.entries → new ≡ servers.successor.entries → channel ≡ servers.channel
     → Gives p n schedule old new channel
 gives p n schedule servers old new channel runs old_is new_is channel_is = record {
   world = runs.world;
   run = runs.over;
-  old_is = old_is ∙ sym (reverse-reverse (list_of servers.predecessor.entries)) ∙ ap (λ (xs : List Entry). reverse xs) runs.old_is;
-  new_is = new_is ∙ sym (reverse-reverse (list_of servers.successor.entries)) ∙ ap (λ (xs : List Entry). reverse xs) runs.new_is;
+  old_is = old_is ∙ sym (reverse-reverse servers.predecessor.entries) ∙ ap (λ (xs : List Entry). reverse xs) runs.old_is;
+  new_is = new_is ∙ sym (reverse-reverse servers.successor.entries) ∙ ap (λ (xs : List Entry). reverse xs) runs.new_is;
   channel_is = channel_is ∙ runs.channel_is;
 }
 

@@ -2,7 +2,8 @@
 
 ghost use Rattle.std.specs.Prelude.{◌≡◌, reverse, if◌then◌else◌};
 ghost use Rattle.std.specs.List.{list_any};
-ghost use Rattle.svc_handover.specs.Channel.{after_old, after_new, after_told, listening_from, is_opening, old_may, new_may, is_as_sent, newest_after, is_sent, sent_message};
+ghost use Rattle.svc_record.specs.Boot.{is_open_receiver};
+ghost use Rattle.svc_handover.specs.Channel.{after_old, after_new, listening_from, old_may, new_may, is_as_sent, newest_after, is_sent, sent_message};
 
 use crate::pair::ChannelState;
 use svc_core::{Action, Entry, Event};
@@ -28,15 +29,28 @@ pub(crate) fn after_new(event: &Event, channel: ChannelState) -> ChannelState
     }
 }
 
-/// The channel after the new server told these actions.
-pub(crate) fn after_told(told: &[Action], channel: ChannelState) -> ChannelState
-    ensures { result ≡ after_told told.now channel }
+/// The channel after these entries of the new server, of which only what it told counts here.
+pub(crate) fn after_told(entries: &[Entry], channel: ChannelState) -> ChannelState
+    ensures { result ≡ (if list_any is_open_receiver entries.now then listening_from channel else channel) }
 {
-    if opens_receiver(told) {
+    if opens_receiver(entries) {
         listening_from(channel)
     } else {
         channel
     }
+}
+
+/// Whether one of the entries opens the receiver.
+fn opens_receiver(entries: &[Entry]) -> bool
+    ensures { result ≡ list_any is_open_receiver entries.now }
+{
+    entries.iter().any(|entry| is_open_receiver(entry))
+}
+
+fn is_open_receiver(entry: &Entry) -> bool
+    ensures { result ≡ is_open_receiver entry.now }
+{
+    matches!(entry, Entry::Told(Action::OpenReceiver))
 }
 
 /// Where nothing was there, the new server listens.
@@ -47,19 +61,6 @@ fn listening_from(channel: ChannelState) -> ChannelState
         ChannelState::Missing => ChannelState::Listening,
         _ => channel,
     }
-}
-
-/// Whether one of the actions opens the receiver.
-pub fn opens_receiver(told: &[Action]) -> bool
-    ensures { result ≡ list_any is_opening told.now }
-{
-    told.iter().any(|action| is_opening(action))
-}
-
-fn is_opening(action: &Action) -> bool
-    ensures { result ≡ is_opening action.now }
-{
-    matches!(action, Action::OpenReceiver)
 }
 
 /// Whether the channel allows the event of the old server.

@@ -5,7 +5,6 @@ pub mod addresses;
 pub mod channel;
 mod law;
 mod pair;
-pub mod recorded;
 pub mod servers;
 
 pub use law::handover_law;

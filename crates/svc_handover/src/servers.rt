@@ -9,23 +9,38 @@ ghost use Rattle.svc_core.specs.Stands.{MayCome};
 ghost use Rattle.svc_handover.specs.declared.pair.PairStep.{PairStep};
 ghost use Rattle.svc_handover.specs.Channel.{old_may, new_may};
 ghost use Rattle.svc_handover.specs.Pair.{is_allowed};
-ghost use Rattle.svc_handover.specs.Runs.{Runs, Grows, MayTake};
+ghost use Rattle.svc_handover.specs.Runs.{Runs, Grows, MayTake, TakesStep};
 
 use crate::addresses::read_addresses;
 use crate::channel::{after_new, after_old, after_told, new_may, old_may};
 use crate::pair::{ChannelState, PairRun, PairStep};
-use crate::recorded::Recorded;
 use std::alloc::Global;
 use std::mem::drop;
 use svc_base::NoMemory;
 use svc_core::{Event, Plan};
+use svc_session::Session;
 
 /// Both servers, which have begun.
 #[derive(Drop)]
 pub struct Servers {
-    pub predecessor: Recorded,
-    pub successor: Recorded,
+    pub predecessor: Session,
+    pub successor: Session,
     pub channel: ChannelState,
+}
+
+/// One step of the one of them that it is for.
+fn step_one(server: &mut Session, alloc: Global, step: &PairStep) -> Result<(), NoMemory>
+    requires may { MayCome server.old.core step.now.event }
+    ensures takes { OnOk result (TakesStep server.old server.new step.now) }
+{
+    let event = step.event.copy(alloc)?;
+    match server.step(alloc, event, step.said) {
+        Ok(_) => Ok(()),
+        Err(event) => {
+            drop(event);
+            Err(NoMemory)
+        }
+    }
 }
 
 impl Servers {
@@ -36,25 +51,21 @@ impl Servers {
         ensures begins { IfOk result (λ servers. Runs old new [] servers) }
     {
         read_addresses(&old);
-        let predecessor = match Recorded::begin(alloc, old) {
-            Ok((predecessor, told)) => {
-                drop(told);
-                predecessor
-            }
+        let predecessor = match Session::begin(alloc, old) {
+            Ok(predecessor) => predecessor,
             Err(NoMemory) => {
                 drop(new);
                 return Err(NoMemory);
             }
         };
-        let (successor, told) = match Recorded::begin(alloc, new) {
-            Ok(begun) => begun,
+        let successor = match Session::begin(alloc, new) {
+            Ok(successor) => successor,
             Err(NoMemory) => {
                 drop(predecessor);
                 return Err(NoMemory);
             }
         };
-        let channel = after_told(told.as_slice(), ChannelState::Missing);
-        drop(told);
+        let channel = after_told(successor.entries().as_slice(), ChannelState::Missing);
         Ok(Servers {
             predecessor,
             successor,
@@ -80,7 +91,7 @@ impl Servers {
         ensures means { (p n : Plan) (before : List PairStep) → (runs : Runs p n before self.now)
             → result ≡ (fits p runs.world.old event.now && old_may runs.world.channel event.now) }
     {
-        self.predecessor.core.fits(event) && old_may(self.channel, event)
+        self.predecessor.fits(event) && old_may(self.channel, event)
     }
 
     fn allows_new(&self, event: &Event) -> bool
@@ -89,8 +100,8 @@ impl Servers {
             → result ≡ (fits n runs.world.new event.now
             && new_may runs.world.channel runs.world.old event.now) }
     {
-        self.successor.core.fits(event)
-            && new_may(self.channel, self.predecessor.entries.as_slice(), event)
+        self.successor.fits(event)
+            && new_may(self.channel, self.predecessor.entries().as_slice(), event)
     }
 
     /// One step, which may come.
@@ -110,7 +121,7 @@ impl Servers {
         requires may { MayCome self.old.predecessor.core step.now.event }
         ensures grows { OnOk result (Grows self.old self.new step.now) }
     {
-        drop(self.predecessor.take(alloc, step)?);
+        step_one(&mut self.predecessor, alloc, step)?;
         self.channel = after_old(&step.event, self.channel);
         Ok(())
     }
@@ -120,17 +131,17 @@ impl Servers {
         requires may { MayCome self.old.successor.core step.now.event }
         ensures grows { OnOk result (Grows self.old self.new step.now) }
     {
-        let told = self.successor.take(alloc, step)?;
+        let before = self.successor.entries().len() as usize;
+        step_one(&mut self.successor, alloc, step)?;
         let channel = after_new(&step.event, self.channel);
-        self.channel = after_told(told.as_slice(), channel);
-        drop(told);
+        self.channel = after_told(&self.successor.entries().as_slice()[before..], channel);
         Ok(())
     }
 
     /// Both records, and the channel.
     pub(crate) fn into_run(self) -> PairRun
-        ensures old { list_of result.old ≡ list_of self.predecessor.entries }
-        ensures new { list_of result.new ≡ list_of self.successor.entries }
+        ensures old { list_of result.old ≡ self.predecessor.entries }
+        ensures new { list_of result.new ≡ self.successor.entries }
         ensures channel { result.channel ≡ self.channel }
     {
         let Servers {

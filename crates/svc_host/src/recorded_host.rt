@@ -86,6 +86,13 @@ impl<H: Waiting, K: Recorder, B: ServiceWithDependents> RecordedHost<H, K, B> {
     {
         &self.inner
     }
+
+    /// What is shown the record.
+    pub fn recorder(&self) -> &K
+        ensures { result.now ≡ self.now.recorder }
+    {
+        &self.recorder
+    }
 }
 
 /// It tells everything.

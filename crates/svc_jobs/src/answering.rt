@@ -67,14 +67,6 @@ pub(crate) fn answer_jobs(alloc: Global, jobs: JobsText) -> Result<Answer, NoMem
             } = script;
             drop(lines);
             server.configuration = conf;
-            let items = match items.into_items(alloc) {
-                Ok(items) => items,
-                Err(NoMemory) => {
-                    drop(services);
-                    drop(server);
-                    return Err(NoMemory);
-                }
-            };
             match run_text(alloc, server, &services, &periods, items) {
                 Ok(left) => {
                     drop(services);

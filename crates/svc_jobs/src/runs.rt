@@ -24,7 +24,7 @@ use svc_job_host::{JobError, JobHost, JobRefused, JobService, run_jobs};
 use svc_main::RunEnd;
 use svc_record::Item;
 use svc_server::{Host, Outcome, RunArgs, RunError};
-use svc_text::ServiceLine;
+use svc_text::{ScriptItems, ServiceLine};
 
 /// How a run of jobs ended that answers so. It has as many turns as events may come, neither takes over
 /// an older server's sockets nor only tests that it can start, and has no parent.
@@ -143,19 +143,26 @@ pub(crate) fn run_text(
     server: JobServer,
     lines: &[ServiceLine],
     periods: &[u64],
-    items: Vec<Item>,
+    items: ScriptItems,
 ) -> Result<RunLeft, NoMemory>
     requires sound { IsSound server.dependencies (length server.filters) (answers_of ⟦<JobService as ServiceWithDependents>⟧ server.services.items) }
     requires bare { (server.options ≡ None) × (server.eager ≡ false) }
     requires sized { length lines.now ≡ length periods.now }
     requires few { length periods.now ≤ 1024 }
     requires paced { ArePeriods periods.now }
-    requires items { AreJobItems items.items }
+    requires items { AreJobItems items }
     ensures run { (parts : JobParts) → IsJobServer parts.script server.configuration server.options server.eager server.dependencies
         (length server.filters) (answers_of ⟦<JobService as ServiceWithDependents>⟧ server.services.items)
-        → parts.periods ≡ periods.now → parts.script.items ≡ items.items → IfOk result (λ left. IsJobRun parts left.end left.host.entries) }
+        → parts.periods ≡ periods.now → parts.script.items ≡ items → IfOk result (λ left. IsJobRun parts left.end left.host.entries) }
     ensures due { IfOk result (λ left. left.host.runs ≡ due_runs periods.now left.host.entries) }
 {
+    let items = match items.into_items(alloc) {
+        Ok(items) => items,
+        Err(NoMemory) => {
+            drop(server);
+            return Err(NoMemory);
+        }
+    };
     let turns = turns_of(&items, periods);
     match host_of(alloc, lines, periods, items) {
         Ok(mut host) => match run_host(alloc, server, turns, &mut host) {

@@ -1,7 +1,7 @@
 -- Where no rule is broken up to the settled prefix before it, one breaks the rules that it breaks in what is looked at anew.
 use Rattle.std.proofs.Common.{Bool, true, false, ◌&&◌, ◌||◌, ◌⊎◌, inl, inr, List, [], ◌∷◌, ◌≡◌, refl, sym, ap, ◌∙◌}
 use Rattle.std.proofs.lemmas.Bool.{false≢true, cases_Bool, eq-eqb}
-use Rattle.std.proofs.Math.Bool.{or-true}
+use Rattle.std.proofs.Math.Bool.{or-true, and-true}
 use Rattle.std.specs.List.{list_all}
 use Rattle.svc_record.specs.declared.plan.Plan.{Plan}
 use Rattle.svc_record.specs.declared.entry.Entry.{Entry}
@@ -91,8 +91,4 @@ connections_by_touched p q h = elim (newest q) [
 pub each_by_new : (test : Entry → Record → Bool) (q : Record) → each_entry test (earlier q) ≡ true → each_entry test q ≡ each_new test q
 each_by_new test [] h = refl
 each_by_new test (Got e ∷ q) h = rw (h) (and-true (test (Got e) q))
-  where
-    and-true : (b : Bool) → (b && true) ≡ b
-    and-true true = refl
-    and-true false = refl
 each_by_new test (Told a ∷ q) h = ap (λ b. test (Told a) q && b) (each_by_new test q h)

@@ -9,7 +9,7 @@ use Rattle.svc_record.specs.declared.event.Event.TheVariants.{Bound}
 use Rattle.svc_record.specs.declared.action.Action.TheVariants.{Bind}
 use Rattle.svc_record.specs.Record.{Record, has, times, from_the_start, each_entry}
 use Rattle.svc_record.specs.Plans.{service_count, endpoints, endpoint_numbers, address, same_address, is_endpoint, any_with}
-use Rattle.svc_record.specs.Descriptors.{brings, has_live, is_close, is_opened, one_live}
+use Rattle.svc_record.specs.Descriptors.{brings, has_live, is_close, is_opened}
 use Rattle.svc_record.specs.Failed.{has_failed}
 use Rattle.svc_record.specs.Asks.{is_bind_open, is_ask_open}
 use Rattle.svc_record.specs.Endpoints.{is_held, is_at_work, is_busy, endpoint_right, endpoint_right_late, endpoints_right, endpoints_right_late}

@@ -1,4 +1,5 @@
 pub mod PastLemmas
+pub mod AddressLemmas
 pub mod EndpointLemmas
 pub mod OfferLemmas
 pub mod ConnectionLemmas
@@ -20,6 +21,11 @@ pub mod NewDescriptorLemmas
 pub mod BoundHoldLemmas
 pub mod NextBindLemmas
 pub mod BoundLemmas
+pub mod FailLemmas
+pub mod OverLemmas
+pub mod EndsLemmas
+pub mod StirHoldLemmas
+pub mod StirLemmas
 pub mod PassedLemmas
 pub mod ServedLemmas
 pub mod TailLemmas

@@ -1,5 +1,6 @@
 -- The rule that is broken anew is the first that is broken, where none is broken up to the settled prefix before.
 use Rattle.std.proofs.Common.{Bool, true, false, not, ◌&&◌, ◌||◌, ◌+◌, [], ◌∷◌, length, ◌≡◌, refl, sym, ap, ◌∙◌, if◌then◌else◌, Option, None}
+use Rattle.std.proofs.Math.Bool.{and-true}
 use Rattle.std.proofs.lemmas.Bool.{false≢true}
 use Rattle.std.specs.List.{list_all}
 use Rattle.svc_record.specs.declared.plan.Plan.{Plan}
@@ -88,10 +89,6 @@ connects_anew p q k = ap (λ b. (b && rests_right q) && each_entry rest_due q) (
 step_anew : (p : Plan) (q : Record) → Held p (earlier q) → step_breach p q ≡ step_breach_by (boot_kept p q) (conn_kept p q) p q
 step_anew p q k =
     ap (λ b. step_breach_by b (conn_right p q) p q) (boots_anew p q k) ∙ ap (λ b. step_breach_by (boot_kept p q) b p q) (connects_anew p q k)
-
-and-true : (b : Bool) → (b && true) ≡ b
-and-true true = refl
-and-true false = refl
 
 middle : (a b c d : Bool) → a ≡ true → b ≡ true → d ≡ true → (a && ((b && c) && d)) ≡ c
 middle a b c d h g f = rw (h, g, f) (and-true c)

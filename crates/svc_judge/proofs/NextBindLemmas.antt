@@ -16,7 +16,7 @@ use Rattle.svc_record.specs.AskRules.{has_turn}
 use Rattle.svc_record.proofs.Sound.{both, below}
 use Rattle.svc_judge.proofs.VerdictLemmas.{and}
 
-any_more : (f g : ℕ → Bool) → ((n : ℕ) → f n ≡ true → g n ≡ true) → (ns : List ℕ) → list_any f ns ≡ true → list_any g ns ≡ true
+pub any_more : (f g : ℕ → Bool) → ((n : ℕ) → f n ≡ true → g n ≡ true) → (ns : List ℕ) → list_any f ns ≡ true → list_any g ns ≡ true
 any_more f g more [] h = h
 any_more f g more (n ∷ ns) h = elim (or_cases (f n) (list_any f ns) h) [
   | inl here ↦ or_left (g n) (list_any g ns) (more n here)

@@ -28,12 +28,14 @@ use Rattle.svc_judge.specs.Verdicts.{unless, at, entry_breach, open_breach_by, s
 use Rattle.svc_judge.specs.Anew.{only_connections, connection_breach, boot_kept, conn_kept}
 use Rattle.svc_judge.specs.Still.{is_idle}
 use Rattle.svc_judge.specs.Binds.{is_well_bound}
+use Rattle.svc_judge.specs.Stirred.{only_stirs, stirred_breach}
 use Rattle.svc_judge.specs.Passed.{passed_anew, end_anew, step_anew_by, late_breach, late_place_breach}
 use Rattle.svc_judge.proofs.VerdictLemmas.{and, entries, entry_keeps, OpenKeeps}
 use Rattle.svc_judge.proofs.NewLemmas.{before, at_event, open_from, all_false, new_is}
 use Rattle.svc_judge.proofs.StillLemmas.{or_right}
 use Rattle.svc_judge.proofs.IdleLemmas.{idle_is}
 use Rattle.svc_judge.proofs.BoundLemmas.{bound_is}
+use Rattle.svc_judge.proofs.StirLemmas.{stirred_is}
 
 -- what stands before each event passes a test that an unbroken prefix gives in which the run goes on
 earlier_open : (p : Plan) (test : Record → Bool) → ((q : Record) → step_breach p q ≡ None → has_ended p q ≡ false → test q ≡ true) → (q : Record)
@@ -108,17 +110,18 @@ step_is p q boots connects h =
 
 pub late_is : (p : Plan) (q : Record) → breach_below p q ≡ None → step_breach p q ≡ late_breach p q
 late_is p q h =
-    with_idle (only_connections q) (is_idle p q) (is_well_bound p q) (step_breach p q) (connection_breach p q)
-    (step_anew_by (boot_kept p q) (conn_kept p q) p q)
+    with_idle (only_connections q) (is_idle p q) (is_well_bound p q) (only_stirs p q) (step_breach p q) (connection_breach p q)
+    (stirred_breach p q) (step_anew_by (boot_kept p q) (conn_kept p q) p q)
     (new_is p q h ∙ ap (λ r. if only_connections q then connection_breach p q else r) (step_is p q (boot_kept p q) (conn_kept p q) h)) (idle_is p q h)
-    (bound_is p q h)
+    (bound_is p q h) (stirred_is p q h)
   where
-    with_idle : (a b d : Bool) (x c z : Option Rule) → x ≡ (if a then c else z) → (b ≡ true → x ≡ None) → (d ≡ true → x ≡ None)
-        → x ≡ (if a then c else (if b then None else (if d then None else z)))
-    with_idle true b d x c z k f g = k
-    with_idle false true d x c z k f g = f refl
-    with_idle false false true x c z k f g = g refl
-    with_idle false false false x c z k f g = k
+    with_idle : (a b d o : Bool) (x c y z : Option Rule) → x ≡ (if a then c else z) → (b ≡ true → x ≡ None) → (d ≡ true → x ≡ None) → (o ≡ true → x ≡ y)
+        → x ≡ (if a then c else (if b then None else (if d then None else (if o then y else z))))
+    with_idle true b d o x c y z k f g i = k
+    with_idle false true d o x c y z k f g i = f refl
+    with_idle false false true o x c y z k f g i = g refl
+    with_idle false false false true x c y z k f g i = i refl
+    with_idle false false false false x c y z k f g i = k
 
 same_first : (b : Bool) (e x y z : Option Rule) → b ≡ true → first_of (if b then e else x) z ≡ first_of (if b then e else y) z
 same_first b e x y z h = rw (h)

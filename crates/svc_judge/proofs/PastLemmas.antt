@@ -1,5 +1,6 @@
 -- What stands before the newest entry has what it opened, and the same offer.
-use Rattle.std.proofs.Common.{ℕ, Bool, true, false, not, ◌||◌, List, [], ◌∷◌, ◌++◌, length, take, drop, ◌≡◌, ◌≤◌, refl, sym, ap, ◌∙◌, arith}
+use Rattle.std.proofs.Common.{ℕ, true, not, ◌||◌, List, [], ◌∷◌, ◌++◌, length, take, drop, ◌≡◌, ◌≤◌, refl, sym, ap, ◌∙◌, arith}
+use Rattle.std.proofs.Math.Bool.{or-true}
 use Rattle.std.proofs.Math.Seq.{take-append_seam, drop-append_seam}
 use Rattle.std.proofs.lemmas.List.{length-append}
 use Rattle.std.specs.List.{list_any}
@@ -31,10 +32,6 @@ same-before _ before h = refl
 
 still-has : (e : Entry) (before : Record) → has is_signal before ≡ true → has is_signal (e ∷ before) ≡ true
 still-has e before h = rw h (or-true (is_signal e))
-  where
-    or-true : (b : Bool) → (b || true) ≡ true
-    or-true true = refl
-    or-true false = refl
 
 reads-cut : (e : Entry) (before : Record) → reads_behind e (reads_of (e ∷ before)) ≡ reads_of before
 reads-cut (Got (Received bytes fds)) before = refl

@@ -106,11 +106,11 @@ none_rest q h =
       binds = not_true (has_in_use q) parts.1;
     }
 
-any_same : (f g : ℕ → Bool) → ((n : ℕ) → f n ≡ g n) → (ns : List ℕ) → list_any f ns ≡ list_any g ns
+pub any_same : (f g : ℕ → Bool) → ((n : ℕ) → f n ≡ g n) → (ns : List ℕ) → list_any f ns ≡ list_any g ns
 any_same f g h [] = refl
 any_same f g h (n ∷ ns) = ap (λ b. b || list_any f ns) (h n) ∙ ap (λ b. g n || b) (any_same f g h ns)
 
-all_same : (f g : ℕ → Bool) → ((n : ℕ) → f n ≡ g n) → (ns : List ℕ) → list_all f ns ≡ list_all g ns
+pub all_same : (f g : ℕ → Bool) → ((n : ℕ) → f n ≡ g n) → (ns : List ℕ) → list_all f ns ≡ list_all g ns
 all_same f g h [] = refl
 all_same f g h (n ∷ ns) = ap (λ b. b && list_all f ns) (h n) ∙ ap (λ b. g n && b) (all_same f g h ns)
 

@@ -1,5 +1,6 @@
 -- What stands behind the last finished step, one entry after the other; and what it says that no rule is broken there.
 use Rattle.std.proofs.Common.{ℕ, zero, suc, Bool, true, false, not, ◌==◌, ◌&&◌, ◌||◌, ◌+◌, ◌-◌, ◌<◌, ◌≤◌, List, [], ◌∷◌, ◌++◌, take, drop, length, filter, is_none, nat_lt, inl, inr, ◌≡◌, refl, sym, ap, ◌∙◌, arith, Option, None, Some, if◌then◌else◌}
+use Rattle.std.proofs.Math.Bool.{and-true}
 use Rattle.std.specs.List.{list_any, list_all, find, range_with_len}
 use Rattle.std.proofs.lemmas.Bool.{false≢true, cases_Bool, lt-ltb, le-ltb}
 use Rattle.std.proofs.lemmas.List.{take-append-drop}
@@ -30,10 +31,6 @@ brought_is fd (e ∷ q) =
 -- what is asked of a connection that the entry brings, where that is live
 pub arrival_asked : (whole : Record) (f : ℕ → Bool) (c : ℕ) → (not (is_uncut whole c) || f c) ≡ list_all f (filter (is_uncut whole) (c ∷ []))
 arrival_asked whole f c = elim (cases_Bool (is_uncut whole c)) [ inl h ↦ rw (h) (sym (and-true (f c))) | inr h ↦ rw (h) refl ]
-  where
-    and-true : (b : Bool) → (b && true) ≡ b
-    and-true true = refl
-    and-true false = refl
 
 -- what the entries tell, the oldest first
 told_by : Record → List Action

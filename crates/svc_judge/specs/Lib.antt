@@ -19,4 +19,5 @@ pub mod Memos
 pub mod Passed
 pub mod Tails
 pub mod Binds
+pub mod Stirred
 pub mod Groups

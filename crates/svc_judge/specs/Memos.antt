@@ -9,6 +9,7 @@ use Rattle.svc_record.specs.Record.{Record}
 use Rattle.svc_record.specs.Ends.{has_ended}
 use Rattle.svc_record.specs.Fits.{accepts}
 use Rattle.svc_judge.specs.Still.{is_still}
+use Rattle.svc_judge.specs.Stirred.{is_in_run}
 use Rattle.svc_judge.specs.declared.memo.Memo.{Memo}
 use Rattle.svc_judge.specs.declared.memo.Accepting.{Accepting}
 
@@ -16,6 +17,7 @@ use Rattle.svc_judge.specs.declared.memo.Accepting.{Accepting}
 pub record IsMemo (m : Memo) (p : Plan) (q : Record) : Type 0 where
   pub ended : (b : Bool) → m.ended ≡ Some b → b ≡ has_ended p q
   pub still : (b : Bool) → m.still ≡ Some b → b ≡ is_still q
+  pub in_run : (b : Bool) → m.in_run ≡ Some b → b ≡ is_in_run p q
   pub accepting : (a : Accepting) → m.accepting ≡ Some a → a.holds ≡ accepts p q a.service a.endpoint
 
 -- the entry is of a service, of an endpoint, or a close, by none of which a run ends
@@ -34,6 +36,6 @@ is_of_service (Told (Adopt s i fd)) = true
 is_of_service (Told (Close fd)) = true
 is_of_service _ = false
 
--- whether the run has ended, where that is known, and nothing else
+-- whether the run has ended, and whether it runs, where that is known, and nothing else
 abbrev pub ended_alone : Memo → Memo
-ended_alone m = record { ended = m.ended; still = None; accepting = None }
+ended_alone m = record { ended = m.ended; still = None; in_run = m.in_run; accepting = None }

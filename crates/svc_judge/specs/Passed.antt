@@ -18,6 +18,7 @@ use Rattle.svc_judge.specs.Verdicts.{unless, at, entry_breach, settled_breach_by
 use Rattle.svc_judge.specs.Anew.{only_connections, connection_breach, boot_kept, conn_kept}
 use Rattle.svc_judge.specs.Still.{is_idle}
 use Rattle.svc_judge.specs.Binds.{is_well_bound}
+use Rattle.svc_judge.specs.Stirred.{only_stirs, stirred_breach}
 use Rattle.svc_judge.specs.declared.judging.Rule.{Rule}
 use Rattle.svc_judge.specs.declared.judging.Rule.TheVariants as rules
 use Rattle.svc_judge.specs.declared.judging.Breach.{Breach}
@@ -43,7 +44,8 @@ step_anew_by boots connects p q =
 abbrev pub late_breach : Plan → Record → Option Rule
 late_breach p q =
     if only_connections q then connection_breach p q else
-    (if is_idle p q then None else (if is_well_bound p q then None else step_anew_by (boot_kept p q) (conn_kept p q) p q))
+    (if is_idle p q then None else
+    (if is_well_bound p q then None else (if only_stirs p q then stirred_breach p q else step_anew_by (boot_kept p q) (conn_kept p q) p q)))
 
 -- the breach at an entry, where none is broken up to it
 abbrev pub late_place_breach : Plan → Entry → Record → Option Breach

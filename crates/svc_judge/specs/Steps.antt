@@ -1,10 +1,10 @@
 -- Parts of the tests of a settled prefix.
-use Rattle.std.specs.Prelude.{ℕ, Bool, false, ◌==◌, not, ◌&&◌, ◌||◌, nat_lt, nat_le, ◌-◌, List, [], ◌∷◌, Option, None, if◌then◌else◌}
+use Rattle.std.specs.Prelude.{ℕ, Bool, true, false, ◌==◌, not, ◌&&◌, ◌||◌, nat_lt, nat_le, ◌-◌, List, [], ◌∷◌, Option, None, if◌then◌else◌}
 use Rattle.std.specs.List.{list_any, list_all}
 use Rattle.svc_record.specs.declared.plan.Plan.{Plan}
 use Rattle.svc_record.specs.declared.entry.Entry.{Entry}
 use Rattle.svc_record.specs.declared.entry.Entry.TheVariants.{Got}
-use Rattle.svc_record.specs.declared.event.Event.TheVariants.{LoopEnded}
+use Rattle.svc_record.specs.declared.event.Event.TheVariants.{LoopEnded, InUse, BindFailed, AdoptFailed, Signal, Sent, ConnectFailed, SendFailed, NotThere, StillConnecting, SendBusy}
 use Rattle.svc_record.specs.Record.{Record, has, has_cut, times}
 use Rattle.svc_record.specs.Plans.{has_kind, address, same_address, any_with, services, endpoint_numbers, each_endpoint, is_endpoint}
 use Rattle.svc_record.specs.Descriptors.{Descriptor, opened_descriptors, is_close, has_live, live_numbers_with}
@@ -109,3 +109,21 @@ adopt_due p q s i fd = has_turn p q s i && list_any (λ n. n == fd) (live_number
 -- the service is ready
 unfoldable pub is_met : Plan → Record → ℕ → Bool
 is_met p q s = is_ready p q s
+
+-- the address of an endpoint of the service is in use, or a bind or an adoption of one failed
+abbrev pub is_trouble : ℕ → Entry → Bool
+is_trouble s (Got (InUse t i)) = t == s
+is_trouble s (Got (BindFailed t i)) = t == s
+is_trouble s (Got (AdoptFailed t i)) = t == s
+is_trouble s _ = false
+
+-- by the event an offer may be over
+abbrev pub may_end_offer : Entry → Bool
+may_end_offer (Got (Signal kind)) = true
+may_end_offer (Got Sent) = true
+may_end_offer (Got ConnectFailed) = true
+may_end_offer (Got SendFailed) = true
+may_end_offer (Got NotThere) = true
+may_end_offer (Got StillConnecting) = true
+may_end_offer (Got SendBusy) = true
+may_end_offer _ = false

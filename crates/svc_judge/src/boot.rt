@@ -140,7 +140,7 @@ fn has_parent(past: &Past) -> bool
 }
 
 /// Whether the run runs.
-fn runs(past: &Past) -> bool
+pub(crate) fn runs(past: &Past) -> bool
     ensures { result ≡ runs (plan_of past.now) (record_of past.now) }
 {
     may_begin(past)

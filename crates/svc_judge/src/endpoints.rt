@@ -1,8 +1,9 @@
 //! Which endpoints are held, and which wait.
 
-ghost use Rattle.std.specs.Prelude.{◌≡◌, ◌==◌, ◌&&◌, not, map, filter};
+ghost use Rattle.std.specs.Prelude.{◌≡◌, ◌==◌, ◌&&◌, ◌||◌, not, map, filter, true};
 ghost use Rattle.std.specs.Option.{option_copied, option_to_list};
 ghost use Rattle.svc_record.specs.declared.entry.Entry.TheVariants.{Told};
+ghost use Rattle.svc_record.specs.Record.{has};
 ghost use Rattle.svc_record.specs.Plans.{endpoint_numbers, address, same_address};
 ghost use Rattle.svc_record.specs.Descriptors.{Descriptor, has_live, live_numbers_with};
 ghost use Rattle.svc_record.specs.Asks.{last_adopt, is_ask_open};
@@ -10,7 +11,7 @@ ghost use Rattle.svc_record.specs.Endpoints.{is_held, is_held_by, holds, is_at_w
 ghost use Rattle.svc_record.specs.AskRules.{has_turn, ask_due, ask_known};
 ghost use Rattle.svc_judge.specs.Pasts.{IsPast, plan_of, record_of};
 ghost use Rattle.svc_judge.specs.Facts.{is_unclosed};
-ghost use Rattle.svc_judge.specs.Holding.{is_some_number, lets_hold, lets_hold_by};
+ghost use Rattle.svc_judge.specs.Holding.{is_some_number, is_taken, lets_hold, lets_hold_by};
 ghost use Rattle.svc_judge.specs.Steps.{is_any_busy, is_busy_in, is_worked_on_in, bind_due, adopt_due};
 ghost use Rattle.std.specs.List.{list_all, list_any, find, range_with_len};
 
@@ -104,9 +105,45 @@ fn lets_hold_by(entry: &Entry, before: &Past, s: u64, i: u64, fd: u64) -> bool
     }
 }
 
+/// A bind or an adoption of the endpoint ended well.
+fn is_taken(s: u64, i: u64, entry: &Entry) -> bool
+    ensures { result ≡ is_taken s i entry.now }
+{
+    match entry {
+        Entry::Got(Event::Bound(t, j, _) | Event::Adopted(t, j)) => is_pair(*t, *j, s, i),
+        _ => false,
+    }
+}
+
+/// Some bind or adoption of it did.
+fn has_taken(entries: &[Entry], s: u64, i: u64) -> bool
+    ensures { result ≡ has (is_taken s i) entries.now }
+{
+    let mut rest = entries;
+    'entries: while let Some((entry, before)) = rest.split_first() {
+        if is_taken(s, i, entry) {
+            return true;
+        }
+        rest = before;
+    }
+    false
+}
+
+/// Some descriptor holds the endpoint, where first it is looked whether any bind or adoption of it ended well.
+#[tactic(auto, using(crate::proofs::EndpointLemmas::never_taken))]
+pub(crate) fn is_held(past: &Past, s: u64, i: u64) -> bool
+    requires { IsPast past.now }
+    ensures { result ≡ is_held (plan_of past.now) (record_of past.now) s i }
+{
+    if !has_taken(past.entries, s, i) {
+        return false;
+    }
+    is_held_at(past, s, i)
+}
+
 /// Some descriptor holds the endpoint.
 #[tactic(auto, using(crate::proofs::EndpointLemmas::held_step))]
-pub(crate) fn is_held(past: &Past, s: u64, i: u64) -> bool
+fn is_held_at(past: &Past, s: u64, i: u64) -> bool
     requires { IsPast past.now }
     ensures { result ≡ is_held (plan_of past.now) (record_of past.now) s i }
 {
@@ -204,7 +241,7 @@ fn rests(past: &Past, s: u64, i: u64) -> bool
 }
 
 /// An ask of the endpoint is open, or it rests.
-fn is_busy(past: &Past, s: u64, i: u64) -> bool
+pub(crate) fn is_busy(past: &Past, s: u64, i: u64) -> bool
     requires { IsPast past.now }
     ensures { result ≡ is_busy (plan_of past.now) (record_of past.now) s i }
 {
@@ -289,12 +326,46 @@ fn waits(past: &Past, s: u64, i: u64) -> bool
     }
 }
 
+/// The endpoints with numbers below this one are seen to be held by one walk, if the last of them was taken last, and so on.
+fn are_held_in_turn(past: &Past, s: u64, count: u64) -> bool
+    requires { IsPast past.now }
+    ensures { result ≡ true → list_all (is_held (plan_of past.now) (record_of past.now) s) (range_with_len 0 count) ≡ true }
+{
+    let mut rest = *past;
+    let mut left = count;
+    'entries: while let Some(
+        Split {
+            entry,
+            news: _,
+            before,
+        },
+    ) = rest.split()
+    {
+        if left == 0 {
+            return true;
+        }
+        if lets_hold(entry, &before, s, left - 1) {
+            left -= 1;
+        }
+        rest = before;
+    }
+    left == 0
+}
+
+/// The endpoints with numbers below this one are held, each looked for by itself.
+fn are_held_each(past: &Past, s: u64, count: u64) -> bool
+    requires { IsPast past.now }
+    ensures { result ≡ list_all (is_held (plan_of past.now) (record_of past.now) s) (range_with_len 0 count) }
+{
+    (0..count).all(|i| is_held(past, s, i))
+}
+
 /// The endpoints with numbers below this one are held.
 fn are_held_below(past: &Past, s: u64, count: u64) -> bool
     requires { IsPast past.now }
     ensures { result ≡ list_all (is_held (plan_of past.now) (record_of past.now) s) (range_with_len 0 count) }
 {
-    (0..count).all(|i| is_held(past, s, i))
+    are_held_in_turn(past, s, count) || are_held_each(past, s, count)
 }
 
 /// The service is at work, and all its endpoints are held.
@@ -305,36 +376,40 @@ pub(crate) fn serves(past: &Past, s: u64) -> bool
     is_at_work(past, s) && are_held_below(past, s, endpoint_count(past.plan, s))
 }
 
-/// The endpoint holds or waits, where its service is started and hasn't failed.
-fn endpoint_right(past: &Past, s: u64, i: u64) -> bool
+/// Each endpoint of the service holds or waits.
+fn all_hold(past: &Past, s: u64) -> bool
     requires { IsPast past.now }
-    ensures { result ≡ endpoint_right (plan_of past.now) (record_of past.now) s i }
+    ensures { result ≡ list_all (λ i. holds (plan_of past.now) (record_of past.now) s i || waits (plan_of past.now) (record_of past.now) s i)
+        (endpoint_numbers (plan_of past.now) s) }
 {
-    !is_at_work(past, s) || (holds(past, s, i) || waits(past, s, i))
+    (0..endpoint_count(past.plan, s)).all(|i| holds(past, s, i) || waits(past, s, i))
 }
 
 /// The same after the signal, where what is held need not be live.
-fn endpoint_right_late(past: &Past, s: u64, i: u64) -> bool
+fn all_held(past: &Past, s: u64) -> bool
     requires { IsPast past.now }
-    ensures { result ≡ endpoint_right_late (plan_of past.now) (record_of past.now) s i }
+    ensures { result ≡ list_all (λ i. is_held (plan_of past.now) (record_of past.now) s i || waits (plan_of past.now) (record_of past.now) s i)
+        (endpoint_numbers (plan_of past.now) s) }
 {
-    !is_at_work(past, s) || (is_held(past, s, i) || waits(past, s, i))
+    (0..endpoint_count(past.plan, s)).all(|i| is_held(past, s, i) || waits(past, s, i))
 }
 
 /// Each endpoint of the service holds or waits, where the service is at work.
-fn are_right(past: &Past, s: u64) -> bool
+#[tactic(auto, using(crate::proofs::EndsLemmas::right_at_once))]
+pub(crate) fn are_right(past: &Past, s: u64) -> bool
     requires { IsPast past.now }
     ensures { result ≡ list_all (endpoint_right (plan_of past.now) (record_of past.now) s) (endpoint_numbers (plan_of past.now) s) }
 {
-    (0..endpoint_count(past.plan, s)).all(|i| endpoint_right(past, s, i))
+    !is_at_work(past, s) || all_hold(past, s)
 }
 
 /// The same after the signal.
+#[tactic(auto, using(crate::proofs::EndsLemmas::late_at_once))]
 pub(crate) fn are_right_late(past: &Past, s: u64) -> bool
     requires { IsPast past.now }
     ensures { result ≡ list_all (endpoint_right_late (plan_of past.now) (record_of past.now) s) (endpoint_numbers (plan_of past.now) s) }
 {
-    (0..endpoint_count(past.plan, s)).all(|i| endpoint_right_late(past, s, i))
+    !is_at_work(past, s) || all_held(past, s)
 }
 
 /// Each endpoint of a service at work holds or waits.

@@ -1,11 +1,12 @@
 //! Which services have failed, which are started, and which are due.
 
-ghost use Rattle.std.specs.Prelude.{◌≡◌, ◌==◌};
+ghost use Rattle.std.specs.Prelude.{◌≡◌, ◌==◌, nat_le};
 ghost use Rattle.std.specs.List.{list_all};
-ghost use Rattle.svc_record.specs.Failed.{in_use_count, has_failed};
+ghost use Rattle.svc_record.specs.Failed.{is_in_use, in_use_count, in_use_limit, has_failed};
 ghost use Rattle.svc_record.specs.Starts.{is_started, is_ready, is_due, start_due, start_right, starts_right, start_known};
 ghost use Rattle.svc_record.specs.AskRules.{fails_right};
-ghost use Rattle.svc_judge.specs.Steps.{fail_right, is_met};
+ghost use Rattle.svc_record.specs.Record.{has, times};
+ghost use Rattle.svc_judge.specs.Steps.{fail_right, is_met, is_trouble};
 ghost use Rattle.svc_judge.specs.Pasts.{IsPast, plan_of, record_of};
 
 use crate::descriptors::has_live;
@@ -43,15 +44,87 @@ pub(crate) fn in_use_count(past: &Past, s: u64, i: u64) -> u64
     count
 }
 
-/// Some endpoint of the service couldn't be bound or adopted, or was in use too often.
+/// The event is that the endpoint's address is in use.
+fn is_in_use(s: u64, i: u64, entry: &Entry) -> bool
+    ensures { result ≡ is_in_use s i entry.now }
+{
+    match entry {
+        Entry::Got(Event::InUse(t, j)) => is_pair(*t, *j, s, i),
+        _ => false,
+    }
+}
+
+/// How often the endpoint's address was in use.
+fn times_in_use(entries: &[Entry], s: u64, i: u64) -> u64
+    ensures { result ≡ times (is_in_use s i) entries.now }
+{
+    let _most = entries.len();
+    let mut rest = entries;
+    let mut count = 0;
+    'entries: while let Some((entry, before)) = rest.split_first() {
+        if is_in_use(s, i, entry) {
+            count += 1;
+        }
+        rest = before;
+    }
+    count
+}
+
+/// The endpoint's address was in use too often. It is first looked whether it was in use so often at all, since that asks for no descriptors.
+fn is_in_use_often(past: &Past, s: u64, i: u64) -> bool
+    requires { IsPast past.now }
+    ensures { result ≡ nat_le (in_use_limit (plan_of past.now) s i) (in_use_count (plan_of past.now) (record_of past.now) s i) }
+{
+    let limit = in_use_limit(past.plan, s, i);
+    limit <= times_in_use(past.entries, s, i) && limit <= in_use_count(past, s, i)
+}
+
+/// The address of an endpoint of the service is in use, or a bind or an adoption of one failed.
+fn is_trouble(s: u64, entry: &Entry) -> bool
+    ensures { result ≡ is_trouble s entry.now }
+{
+    match entry {
+        Entry::Got(Event::InUse(t, _) | Event::BindFailed(t, _) | Event::AdoptFailed(t, _)) =>
+            u64::from(*t) == s,
+        _ => false,
+    }
+}
+
+/// An address of the service was in use, or a bind or an adoption of one failed.
+fn has_trouble(entries: &[Entry], s: u64) -> bool
+    ensures { result ≡ has (is_trouble s) entries.now }
+{
+    let mut rest = entries;
+    'entries: while let Some((entry, before)) = rest.split_first() {
+        if is_trouble(s, entry) {
+            return true;
+        }
+        rest = before;
+    }
+    false
+}
+
+/// Some endpoint of the service couldn't be bound or adopted, or was in use too often, by a walk for each endpoint.
+fn has_failed_at(past: &Past, s: u64) -> bool
+    requires { IsPast past.now }
+    ensures { result ≡ has_failed (plan_of past.now) (record_of past.now) s }
+{
+    (0..endpoint_count(past.plan, s)).any(|i| has(
+        Query::Answer(Answer::Failure(s, i)),
+        past.entries,
+    ) || is_in_use_often(past, s, i))
+}
+
+/// The same, where first one walk for all of them looks whether any could have failed.
+#[tactic(auto, using(crate::proofs::FailLemmas::untroubled))]
 pub(crate) fn has_failed(past: &Past, s: u64) -> bool
     requires { IsPast past.now }
     ensures { result ≡ has_failed (plan_of past.now) (record_of past.now) s }
 {
-    (0..endpoint_count(past.plan, s)).any(|i| {
-        has(Query::Answer(Answer::Failure(s, i)), past.entries)
-            || in_use_limit(past.plan, s, i) <= in_use_count(past, s, i)
-    })
+    if !has_trouble(past.entries, s) {
+        return false;
+    }
+    has_failed_at(past, s)
 }
 
 /// The service was started.

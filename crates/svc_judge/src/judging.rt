@@ -33,6 +33,7 @@ use crate::settled::{
     ended_right, in_service, is_last_well, is_served, offer_kept, passed_anew, starts_kept,
     tested_right,
 };
+use crate::stirred::stirred_breach;
 use crate::waits::{has_ended, step_end, waits_are_over};
 use std::alloc::Global;
 use std::mem::drop;
@@ -165,12 +166,15 @@ fn entry_breach(entry: &Entry, before: &Past, fits: bool, known: bool) -> Option
 
 /// The endpoints of the services at work are held or wait: as they have to be before the signal, and as
 /// after it.
+#[tactic(auto, using(crate::proofs::EndsLemmas::kept_in_service, crate::proofs::EndsLemmas::kept_otherwise))]
 fn are_endpoints_kept(past: &Past) -> bool
     requires { IsPast past.now }
     ensures { result ≡ are_endpoints_kept (plan_of past.now) (record_of past.now) }
 {
-    (!has(Query::Order(Order::Running), past.entries) || endpoints_right_late(past))
-        && (!in_service(past.entries) || endpoints_right(past))
+    if in_service(past.entries) {
+        return endpoints_right(past);
+    }
+    !has(Query::Order(Order::Running), past.entries) || endpoints_right_late(past)
 }
 
 /// Each phase, and the broadcast, is told when it is due, with its moment.
@@ -322,6 +326,8 @@ fn late_breach(
         Ok(None)
     } else if is_well_bound(past) {
         Ok(None)
+    } else if memo.only_stirs(past) {
+        Ok(stirred_breach(past))
     } else {
         step_anew(alloc, past, chains)
     }
@@ -466,9 +472,10 @@ fn breach_of(alloc: Global, past: &Past) -> Result<Option<Breach>, NoMemory>
 /// An entry on a connection costs what stands in the record on those connections whose numbers leave the same
 /// remainder, divided by a quarter of the record's length, and a moment where no bind, no try and no offer rests what
 /// stands since the one before it; what has to be known besides is looked for in the whole once for all such entries
-/// that stand side by side. Any other entry costs the record's length up to there, times what is opened, and the
-/// services' endpoints, so a record of such entries alone the square of its length. `NoMemory` where there is no
-/// memory for what is looked up often.
+/// that stand side by side. A word of a service, its start, its bind, and an address in use where the endpoint rests cost
+/// the record's length up to there for each service that they let start and each endpoint that they are of. Any other
+/// entry costs the record's length up to there, times what is opened, and the services' endpoints, so a record of such
+/// entries alone the square of its length. `NoMemory` where there is no memory for what is looked up often.
 #[tactic(auto, using(crate::proofs::ServedLemmas::served_by_waits))]
 pub fn judge(alloc: Global, plan: &Plan, entries: &[Entry]) -> Result<Verdict, NoMemory>
     ensures served { IfOk result (λ v. v.served ≡ is_served plan.now entries.now) }

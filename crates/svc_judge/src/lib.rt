@@ -27,6 +27,7 @@ mod query;
 mod rules;
 mod settled;
 mod still;
+mod stirred;
 mod tails;
 mod waits;
 

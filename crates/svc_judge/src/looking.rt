@@ -21,6 +21,7 @@ pub(crate) fn is_in(number: u64, numbers: &[u64]) -> bool
 }
 
 /// Among the entries is one that passes the test.
+#[inline(always)]
 pub(crate) fn has(query: Query, entries: &[Entry]) -> bool
     ensures { result ≡ has (query_test query) entries.now }
 {
@@ -35,6 +36,7 @@ pub(crate) fn has(query: Query, entries: &[Entry]) -> bool
 }
 
 /// How many entries pass the test.
+#[inline(always)]
 pub(crate) fn times(query: Query, entries: &[Entry]) -> u64
     ensures { result ≡ times (query_test query) entries.now }
 {

@@ -9,6 +9,7 @@ ghost use Rattle.svc_record.specs.declared.entry.Entry.TheVariants.{Got};
 ghost use Rattle.svc_record.specs.declared.event.Event.TheVariants.{Moment};
 ghost use Rattle.svc_judge.specs.Chains.{IsChains};
 ghost use Rattle.svc_judge.specs.Still.{is_still, is_idle};
+ghost use Rattle.svc_judge.specs.Stirred.{is_in_run, only_stirs};
 ghost use Rattle.svc_judge.specs.Memos.{IsMemo, is_of_service, ended_alone};
 ghost use Rattle.svc_judge.specs.Pasts.{IsPast, plan_of, record_of};
 
@@ -18,7 +19,8 @@ use crate::chains::Chains;
 use crate::looking::now;
 use crate::past::Past;
 use crate::still::is_at_moment;
-use crate::{fits, still, waits};
+use crate::stirred::are_stirs;
+use crate::{fits, still, stirred, waits};
 use svc_record::{Action, Entry, Event};
 
 /// Whether an endpoint accepts.
@@ -29,11 +31,13 @@ pub(crate) struct Accepting {
     holds: bool,
 }
 
-/// Whether the run has ended, whether time alone changes nothing, and whether an endpoint accepts, where that is known.
+/// Whether the run has ended, whether time alone changes nothing, whether the run runs and nothing was broadcast, and whether
+/// an endpoint accepts, where that is known.
 #[derive(Clone, Copy)]
 pub(crate) struct Memo {
     ended: Option<bool>,
     still: Option<bool>,
+    in_run: Option<bool>,
     accepting: Option<Accepting>,
 }
 
@@ -70,6 +74,7 @@ impl Memo {
         Memo {
             ended: None,
             still: None,
+            in_run: None,
             accepting: None,
         }
     }
@@ -94,17 +99,19 @@ impl Memo {
         Memo {
             ended: self.ended_before(ms, before),
             still: self.still,
+            in_run: self.in_run,
             accepting: self.accepting,
         }
     }
 
-    /// Whether the run has ended, where that is known, and nothing else.
+    /// Whether the run has ended, and whether it runs, where that is known, and nothing else.
     fn ended_alone(self) -> Self
         ensures { result ≡ ended_alone self }
     {
         Memo {
             ended: self.ended,
             still: None,
+            in_run: self.in_run,
             accepting: None,
         }
     }
@@ -163,6 +170,31 @@ impl Memo {
         ensures memo { IsMemo self.new (plan_of past.now) (record_of past.now) }
     {
         is_at_moment(past.entries) && self.is_still(past) && !self.has_ended(past)
+    }
+
+    /// Whether the run runs, and nothing was broadcast.
+    fn is_in_run(&mut self, past: &Past) -> bool
+        requires { IsMemo self.old (plan_of past.now) (record_of past.now) }
+        ensures is { result ≡ is_in_run (plan_of past.now) (record_of past.now) }
+        ensures memo { IsMemo self.new (plan_of past.now) (record_of past.now) }
+    {
+        if let Some(in_run) = self.in_run {
+            return in_run;
+        }
+        let in_run = stirred::is_in_run(past);
+        self.in_run = Some(in_run);
+        in_run
+    }
+
+    /// Whether words of services, their starts, binds and addresses in use alone came since the last step, in a run that
+    /// runs.
+    pub(crate) fn only_stirs(&mut self, past: &Past) -> bool
+        requires past { IsPast past.now }
+        requires memo { IsMemo self.old (plan_of past.now) (record_of past.now) }
+        ensures is { result ≡ only_stirs (plan_of past.now) (record_of past.now) }
+        ensures memo { IsMemo self.new (plan_of past.now) (record_of past.now) }
+    {
+        are_stirs(past) && self.is_in_run(past)
     }
 
     /// Whether the endpoint accepts.

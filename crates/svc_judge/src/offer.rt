@@ -1,13 +1,13 @@
 //! What is offered to a successor after an upgrade signal, and how the offer goes.
 
-ghost use Rattle.std.specs.Prelude.{◌≡◌, ◌==◌, true, length};
+ghost use Rattle.std.specs.Prelude.{◌≡◌, ◌==◌, ◌∷◌, true, length};
 ghost use Rattle.std.specs.List.{list_any};
 ghost use Rattle.svc_fds.specs.Tables.{Entry as TableEntry};
 ghost use Rattle.svc_record.specs.Offer.{is_upgrade, table, is_empty_table, is_written, has_offer, is_offered, is_answered, is_over, is_held_back, over_moment, goes_on, is_message, offer_due, offer_right, retry_due, one_holds, one_ask};
 ghost use Rattle.svc_record.specs.Message.{encode};
 ghost use Rattle.svc_judge.specs.Pasts.{IsPast, plan_of, record_of};
 ghost use Rattle.svc_record.specs.Record.{has, is_signal, signal_of};
-ghost use Rattle.svc_judge.specs.Steps.{is_asking, has_offer_ended};
+ghost use Rattle.svc_judge.specs.Steps.{is_asking, has_offer_ended, may_end_offer};
 
 use crate::looking::{
     answer_rests, has, has_cut, is_in, is_open, now, sends_next, signal_of, times,
@@ -15,7 +15,7 @@ use crate::looking::{
 use crate::past::{Past, Split};
 use crate::query::{Ask, News, Query};
 use svc_fds::Message;
-use svc_record::{Action, Entry, ShutdownSignal};
+use svc_record::{Action, Entry, Event, ShutdownSignal};
 
 /// The first signal asks for an upgrade.
 fn is_upgrade_signal(entries: &[Entry]) -> bool
@@ -127,12 +127,44 @@ pub(crate) fn is_held_back(past: &Past, fd: u64) -> bool
     is_offered(past, fd) && !is_over(past)
 }
 
+/// By the event an offer may be over.
+fn may_end_offer(entry: &Entry) -> bool
+    ensures { result ≡ may_end_offer entry.now }
+{
+    matches!(
+        entry,
+        Entry::Got(
+            Event::Signal(_)
+                | Event::Sent
+                | Event::ConnectFailed
+                | Event::SendFailed
+                | Event::NotThere
+                | Event::StillConnecting
+                | Event::SendBusy
+        )
+    )
+}
+
+/// Whether the offer is over before the entry, where it is known whether it is with it.
+#[tactic(auto, using(crate::proofs::OverLemmas::over_same))]
+fn is_over_before(over: bool, entry: &Entry, before: &Past) -> bool
+    requires past { IsPast before.now }
+    requires over { over ≡ is_over (plan_of before.now) (entry.now ∷ record_of before.now) }
+    ensures { result ≡ is_over (plan_of before.now) (record_of before.now) }
+{
+    if may_end_offer(entry) {
+        return is_over(before);
+    }
+    over
+}
+
 /// The moment of the first entry since which the offer is over.
 pub(crate) fn over_moment(past: &Past) -> u64
     requires { IsPast past.now }
     ensures { result ≡ over_moment (plan_of past.now) (record_of past.now) }
 {
     let mut rest = *past;
+    let mut over = is_over(past);
     'entries: while let Some(
         Split {
             entry,
@@ -141,8 +173,9 @@ pub(crate) fn over_moment(past: &Past) -> u64
         },
     ) = rest.split()
     {
+        over = is_over_before(over, entry, &before);
         if let Entry::Got(_) = entry
-            && !is_over(&before)
+            && !over
         {
             return now(rest.entries);
         }

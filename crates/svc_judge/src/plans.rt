@@ -1,6 +1,6 @@
 //! What a plan says of its services and endpoints.
 
-ghost use Rattle.std.specs.Prelude.{◌≡◌, ◌==◌, ◌&&◌, length, bytes_eq};
+ghost use Rattle.std.specs.Prelude.{◌≡◌, ◌==◌, ◌&&◌, length, bytes_eq, true};
 ghost use Rattle.std.specs.List.{list_any};
 ghost use Rattle.std.specs.Option.{option_copied};
 ghost use Rattle.svc_graph.specs.declared.plan.EndpointPlan.{EndpointPlan};
@@ -134,12 +134,31 @@ pub(crate) fn options_of(plan: &Plan, s: u64, i: u64) -> &[Setting]
     }
 }
 
+/// The texts are as long, and end in the same byte.
+fn ends_alike(one: &[u8], other: &[u8]) -> bool
+    ensures { one.now ≡ other.now → result ≡ true }
+{
+    let count = one.len();
+    if count != other.len() {
+        return false;
+    }
+    count == 0 || one[count - 1] == other[count - 1]
+}
+
+/// The addresses are the same. Their ends are compared first, in which those of a plan mostly differ.
+#[tactic(auto, using(crate::proofs::AddressLemmas::unlike))]
+fn is_same(one: &str, other: &str) -> bool
+    ensures { result ≡ bytes_eq one.now other.now }
+{
+    ends_alike(one.as_bytes(), other.as_bytes()) && one == other
+}
+
 /// Both are an address, and the same one.
 pub(crate) fn same_address(one: Option<&str>, other: Option<&str>) -> bool
     ensures { result ≡ same_address (option_copied one.entry) (option_copied other.entry) }
 {
     match (one, other) {
-        (Some(a), Some(b)) => a == b,
+        (Some(a), Some(b)) => is_same(a, b),
         _ => false,
     }
 }
@@ -179,7 +198,7 @@ fn has_endpoint(list: &[EndpointPlan], address: &str) -> bool
     ensures { result ≡ list_any (λ (e : EndpointPlan). bytes_eq e.address address.now) list.now }
 {
     list.iter()
-        .any(|endpoint| endpoint.address.as_str() == address)
+        .any(|endpoint| is_same(endpoint.address.as_str(), address))
 }
 
 /// The service declares the address, or has an endpoint with it.

@@ -15,13 +15,13 @@ ghost use Rattle.svc_main.specs.CommandWords.{TakesWords, RefusesWords, made_siz
 ghost use Rattle.svc_main.specs.Program.{Ran, Made, RefusedText, IsAnswer, Ends, Faults, Writes, WritesFront, IsWholeScript};
 
 use crate::answering::{Answer, answer_made, answer_script, said};
-use crate::kept::{KeptTexts, read_kept};
+use crate::kept::KeptTexts;
 use crate::outcome::StatusLine;
 use crate::words::{made_size, read_words};
 use std::alloc::Global;
 use std::mem::drop;
 use std::rc::RcStr;
-use svc_base::{NoMemory, ReadAllError, Sink, Source, Status, write_all};
+use svc_base::{NoMemory, ReadAllError, Sink, Source, Status, read_to_end, write_all};
 use svc_text::{ScriptError, parse};
 
 /// What is to be written, where the words don't ask for the generator.
@@ -41,7 +41,7 @@ fn answer_run<S: Source>(
     let Some(opt) = read_words(alloc, words)? else {
         return said(alloc, StatusLine::Words);
     };
-    match read_kept(source, bytes) {
+    match read_to_end(source, bytes) {
         Ok(()) => {}
         Err(ReadAllError::Fault) => return said(alloc, StatusLine::ReadFault),
         Err(ReadAllError::TooLong) => return said(alloc, StatusLine::Line(0)),

@@ -1,2 +1,4 @@
+pub mod Ends
 pub mod Files
 pub mod Gates
+pub mod Refusals

@@ -26,6 +26,8 @@ pub enum Ending {
     HostFault,
     /// Every service was given up, so that nothing could be served any more.
     NoService,
+    /// The sockets were to go over to a newer generation, and none took them.
+    NoSuccessor,
     /// Memory was refused.
     NoMemory,
     /// The run ended so.
@@ -56,7 +58,7 @@ impl Ending {
             Ending::NoMemory | Ending::Run(Err(RunError::NoMemory)) => 7,
             Ending::Run(Ok(Outcome::Served | Outcome::TestPassed | Outcome::Parent(0))) => 0,
             Ending::Run(Ok(Outcome::Parent(_))) => 1,
-            Ending::Config(_) | Ending::HostFault | Ending::Run(Err(_)) => 4,
+            Ending::Config(_) | Ending::HostFault | Ending::NoSuccessor | Ending::Run(Err(_)) => 4,
             Ending::NoService => 8,
         }
     }
@@ -88,6 +90,7 @@ impl fmt::Display for EndLine {
             Ending::Config(key) => write!(f, "status config {}", key.name()),
             Ending::HostFault => write!(f, "status host fault"),
             Ending::NoService => write!(f, "status no service"),
+            Ending::NoSuccessor => write!(f, "status no successor"),
             Ending::NoMemory => write!(f, "status no memory"),
             Ending::Run(Ok(Outcome::Served)) => write!(f, "status served"),
             Ending::Run(Ok(Outcome::TestPassed)) => write!(f, "status tested"),

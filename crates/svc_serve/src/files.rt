@@ -1,13 +1,14 @@
-//! The files that a file's lines name: the rules of gates, and jobs. Each is read once, at the start.
+//! The files that a file's lines name: the rules of gates, and jobs. Each is read once, before its generation begins.
 
 ghost use Rattle.std.specs.Prelude.{◌≤◌, length, IfOk};
 
 use crate::ending::Ending;
+use crate::refusal::Refusal;
 use std::alloc::Global;
 use std::fs;
 use std::fs::File;
 use std::rt::Files;
-use svc_base::{ReadAllError, Reading, read_all};
+use svc_base::{NoMemory, ReadAllError, Reading, read_all};
 use thiserror::Error;
 
 /// Why a file isn't read.
@@ -52,13 +53,19 @@ pub(crate) fn bytes_at<R: Files<File = File>>(
     }
 }
 
-/// How the program ends where a file that is named isn't read, after saying which.
-pub(crate) fn refuse_unread(rt: &HostRuntime, path: &str, unread: Unread) -> Ending {
+/// What is wrong with a file that is named.
+fn unread_cause(alloc: Global, path: &str, unread: Unread) -> Result<String, NoMemory> {
+    Ok(format!(in alloc; "{path} {unread}")?)
+}
+
+/// A file that is named isn't read.
+pub(crate) fn refuse_unread(alloc: Global, path: &str, unread: Unread) -> Refusal {
     match unread {
-        Unread::NoMemory => Ending::NoMemory,
-        Unread::Fault | Unread::TooLong => {
-            let _ = eprintln!(rt; "svc serve: {path} {unread}");
-            Ending::ReadFault
-        }
+        Unread::NoMemory => Refusal::memory(),
+        Unread::Fault | Unread::TooLong => Refusal::new(
+            alloc,
+            Ending::ReadFault,
+            unread_cause(alloc, path, unread),
+        ),
     }
 }

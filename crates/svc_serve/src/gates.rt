@@ -1,4 +1,4 @@
-//! The gates of services: their rules are read from files at the start.
+//! The gates of services: their rules are read from files before a generation begins.
 
 ghost use Rattle.std.specs.Prelude.{◌≡◌, ◌+◌, ◌++◌, ◌∷◌, [], length, map, IfOk, OnOk};
 ghost use Rattle.std.specs.Str.Lines.{lines};
@@ -8,6 +8,7 @@ ghost use Rattle.svc_text.specs.declared.service.ServiceLine.{ServiceLine};
 
 use crate::ending::Ending;
 use crate::files::{bytes_at, refuse_unread};
+use crate::refusal::Refusal;
 use std::alloc::Global;
 use std::str;
 use svc_base::NoMemory;
@@ -51,31 +52,33 @@ fn gate_of(alloc: Global, bytes: &[u8]) -> Result<Gate, GateRefused>
     }
 }
 
-/// Says why there is no gate.
-fn refuse_gate(rt: &HostRuntime, path: &str, refused: GateRefused) -> Ending {
+/// What is wrong with the rules in the file at this path.
+fn gate_cause(alloc: Global, path: &str, refused: GateRefused) -> Result<String, NoMemory> {
+    Ok(format!(in alloc; "{path}: {refused}")?)
+}
+
+/// There is no gate.
+fn refuse_gate(alloc: Global, path: &str, refused: GateRefused) -> Refusal {
     match refused {
-        GateRefused::NoMemory | GateRefused::Rules(GateError::NoMemory) => Ending::NoMemory,
-        _ => {
-            let _ = eprintln!(rt; "svc serve: {path}: {refused}");
-            Ending::Gate
-        }
+        GateRefused::NoMemory | GateRefused::Rules(GateError::NoMemory) => Refusal::memory(),
+        _ => Refusal::new(alloc, Ending::Gate, gate_cause(alloc, path, refused)),
     }
 }
 
 /// The gate of the rules in the file at this path.
-fn gate_at(rt: &HostRuntime, path: &str) -> Result<Gate, Ending> {
+fn gate_at(rt: &HostRuntime, path: &str) -> Result<Gate, Refusal> {
     let bytes = match bytes_at(rt, rt.alloc(), path) {
         Ok(bytes) => bytes,
-        Err(unread) => return Err(refuse_unread(rt, path, unread)),
+        Err(unread) => return Err(refuse_unread(rt.alloc(), path, unread)),
     };
     match gate_of(rt.alloc(), bytes.as_slice()) {
         Ok(gate) => Ok(gate),
-        Err(refused) => Err(refuse_gate(rt, path, refused)),
+        Err(refused) => Err(refuse_gate(rt.alloc(), path, refused)),
     }
 }
 
 /// The gate of the service with this number, if these lines say that it has one.
-fn gate(rt: &HostRuntime, works: &[WorkLine], service: usize) -> Result<Option<Gate>, Ending> {
+fn gate(rt: &HostRuntime, works: &[WorkLine], service: usize) -> Result<Option<Gate>, Refusal> {
     match file_path(works, service, WorkFile::Gate) {
         Some(path) => Ok(Some(gate_at(rt, path.as_str())?)),
         None => Ok(None),
@@ -104,7 +107,7 @@ pub(crate) fn filters_of(
     rt: &HostRuntime,
     services: &[ServiceLine],
     works: &[WorkLine],
-) -> Result<Filters<GatedFilter>, Ending>
+) -> Result<Filters<GatedFilter>, Refusal>
     ensures count { IfOk result (λ filters. length filters ≡ length services.now) }
     ensures blocked { IfOk result (λ filters. map blocked_of filters ≡ map (λ (x : ServiceLine). x.blocked) services.now) }
 {
@@ -114,7 +117,7 @@ pub(crate) fn filters_of(
     for line in services {
         let gate = gate(rt, works, service)?;
         if add_filter(alloc, &mut filters, line, gate).is_err() {
-            return Err(Ending::NoMemory);
+            return Err(Refusal::memory());
         }
         service += 1;
     }

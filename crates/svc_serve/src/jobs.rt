@@ -1,9 +1,12 @@
-//! The jobs of services: they are read from files at the start.
+//! The jobs of services: they are read from files before a generation begins.
 
 ghost use Rattle.std.specs.Prelude.{None};
 
 use crate::ending::Ending;
 use crate::files::{bytes_at, refuse_unread};
+use crate::refusal::Refusal;
+use std::alloc::Global;
+use svc_base::NoMemory;
 use svc_job_host::{JobError, JobPlan, JobRun, JobTeller, ServedJobs};
 use svc_jobs::read_job_file;
 use svc_text::ScriptError;
@@ -32,39 +35,43 @@ impl<'a> JobTeller for JobLines<'a> {
     }
 }
 
-/// Says why a file says no jobs.
-fn refuse_jobs(rt: &HostRuntime, path: &str, refused: ScriptError) -> Ending {
+/// What is wrong with the line of a file of jobs.
+fn line_cause(alloc: Global, path: &str, n: usize) -> Result<String, NoMemory> {
+    Ok(format!(in alloc;
+        "{path}: line {n} says no job, or one that comes after itself or after none"
+    )?)
+}
+
+/// A file says no jobs.
+fn refuse_jobs(alloc: Global, path: &str, refused: ScriptError) -> Refusal {
     match refused {
-        ScriptError::NoMemory => Ending::NoMemory,
-        ScriptError::Line(n) => {
-            let _ = eprintln!(rt;
-                "svc serve: {path}: line {n} says no job, or one that comes after itself or after none"
-            );
-            Ending::Jobs
-        }
+        ScriptError::NoMemory => Refusal::memory(),
+        ScriptError::Line(n) => Refusal::new(alloc, Ending::Jobs, line_cause(alloc, path, n)),
     }
 }
 
-/// Says why jobs can't be run.
-fn refuse_plans(rt: &HostRuntime, path: &str, refused: JobError) -> Ending {
+/// Why jobs can't be run.
+fn plans_cause(alloc: Global, path: &str, refused: JobError) -> Result<String, NoMemory> {
+    Ok(format!(in alloc; "{path}: {refused}")?)
+}
+
+/// Jobs can't be run.
+fn refuse_plans(alloc: Global, path: &str, refused: JobError) -> Refusal {
     match refused {
-        JobError::NoMemory => Ending::NoMemory,
-        _ => {
-            let _ = eprintln!(rt; "svc serve: {path}: {refused}");
-            Ending::Jobs
-        }
+        JobError::NoMemory => Refusal::memory(),
+        _ => Refusal::new(alloc, Ending::Jobs, plans_cause(alloc, path, refused)),
     }
 }
 
 /// The jobs in the file at this path.
-fn jobs_at(rt: &HostRuntime, path: &str) -> Result<Vec<JobPlan>, Ending> {
+fn jobs_at(rt: &HostRuntime, path: &str) -> Result<Vec<JobPlan>, Refusal> {
     let bytes = match bytes_at(rt, rt.alloc(), path) {
         Ok(bytes) => bytes,
-        Err(unread) => return Err(refuse_unread(rt, path, unread)),
+        Err(unread) => return Err(refuse_unread(rt.alloc(), path, unread)),
     };
     match read_job_file(rt.alloc(), bytes.as_slice()) {
         Ok(plans) => Ok(plans),
-        Err(refused) => Err(refuse_jobs(rt, path, refused)),
+        Err(refused) => Err(refuse_jobs(rt.alloc(), path, refused)),
     }
 }
 
@@ -74,7 +81,7 @@ fn add_jobs(
     jobs: &mut Vec<ServedJobs>,
     works: &[WorkLine],
     service: u32,
-) -> Result<(), Ending> {
+) -> Result<(), Refusal> {
     let Some(path) = file_path(works, service as usize, WorkFile::Jobs) else {
         return Ok(());
     };
@@ -82,9 +89,9 @@ fn add_jobs(
     match ServedJobs::new(rt.alloc(), service, plans) {
         Ok(served) => match jobs.push(served) {
             Ok(()) => Ok(()),
-            Err(_) => Err(Ending::NoMemory),
+            Err(_) => Err(Refusal::memory()),
         },
-        Err(refused) => Err(refuse_plans(rt, path.as_str(), refused)),
+        Err(refused) => Err(refuse_plans(rt.alloc(), path.as_str(), refused)),
     }
 }
 
@@ -93,7 +100,7 @@ pub(crate) fn jobs_of(
     rt: &HostRuntime,
     works: &[WorkLine],
     services: u32,
-) -> Result<Vec<ServedJobs>, Ending> {
+) -> Result<Vec<ServedJobs>, Refusal> {
     let mut jobs = Vec::new(rt.alloc());
     for service in 0..services {
         add_jobs(rt, &mut jobs, works, service)?;

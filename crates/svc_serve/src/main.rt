@@ -3,13 +3,20 @@
 #![tactic(auto)]
 
 mod ending;
+mod ends;
 mod files;
 mod gates;
+mod generation;
+mod generations;
+mod inherited;
 mod jobs;
 mod notices;
 mod pid_file;
+mod planning;
 mod reading;
+mod refusal;
 mod serve;
+mod successors;
 
 use crate::ending::Ending;
 use crate::serve::serve_file;
@@ -27,8 +34,8 @@ fn main(rt: HostRuntime) -> ExitCode {
     };
     let ending = match words.as_slice() {
         _ if !is_text => Ending::Words,
-        [file] => serve_file(&rt, file.as_str(), None),
-        [file, log] => serve_file(&rt, file.as_str(), Some(log.as_str())),
+        [file] => serve_file(&rt, &rt, file.as_str(), None),
+        [file, log] => serve_file(&rt, &rt, file.as_str(), Some(log.as_str())),
         _ => Ending::Words,
     };
     if let Some(line) = ending.line() {

@@ -1,5 +1,6 @@
 -- What filters said in a run, step by step.
 use Rattle.std.proofs.Common.{ℕ, Bool, true, false, not, ◌≡◌, ◌||◌, ◌<◌, List, [], ◌∷◌, ◌++◌, map, Option, Some, None, refl, ap, sym, subst, ◌∙◌, append_assoc, append-nil, eq-eqb}
+use Rattle.std.proofs.Math.Bool.{or-false, or-true}
 use Rattle.std.specs.Prelude.{IfSome}
 use Rattle.svc_socket.specs.declared.peer.Peer.{Peer}
 use Rattle.svc_socket.specs.declared.peer.Peer.TheVariants.{Unknown, Unix, Inet}
@@ -51,14 +52,6 @@ judges-first verdict p = record { said = tt; later = λ f asked x. refl }
 same-as : (said answer : Bool) → said ≡ answer → same_answer said answer ≡ true
 same-as true answer e = sym e
 same-as false answer e = ap not (sym e)
-
-or-false : (b : Bool) → (b || false) ≡ b
-or-false true = refl
-or-false false = refl
-
-or-true : (b : Bool) → (b || true) ≡ true
-or-true true = refl
-or-true false = refl
 
 -- the judgement is right where the filter, if there is one, said so
 said-one : (verdict : Verdict) (p : Plan) (q : Record) (c : ℕ) (b : Bool) (a : Arrival) (number : Option ℕ) → arrival_of q c ≡ Some a

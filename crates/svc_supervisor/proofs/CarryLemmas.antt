@@ -56,53 +56,55 @@ sound-before p q a h =
 
 -- what makes a generation good for the address
 record Good (g : Generation) (a : List ℕ) : Type 0 where
-  pub named : is_named g.core.plan a ≡ true
-  pub sound : is_sound_for g.core.plan (history g) a ≡ true
+  pub named : is_named g.session.core.plan a ≡ true
+  pub sound : is_sound_for g.session.core.plan (history g) a ≡ true
   pub kind : is_upgrade_or_none (signal_of (history g)) ≡ true
-  pub sent : ends_sent g.core.plan (history g) ≡ true
+  pub sent : ends_sent g.session.core.plan (history g) ≡ true
 
 good-parts : (g : Generation) (a : List ℕ) → is_good (data_of g) a ≡ true → Good g a
 good-parts g a h =
-    let p = g.core.plan in
+    let p = g.session.core.plan in
     let q = history g in
     let first = and_parts (is_named p a && is_sound_for p q a) (is_upgrade_or_none (signal_of q) && (ends_sent p q && not (is_down p q))) h in
     let names = and_parts (is_named p a) (is_sound_for p q a) first.0 in
     let rest = and_parts (is_upgrade_or_none (signal_of q)) (ends_sent p q && not (is_down p q)) first.1 in
     record { named = names.0; sound = names.1; kind = rest.0; sent = (and_parts (ends_sent p q) (not (is_down p q)) rest.1).0 }
 
-module _ (a : List ℕ) (g : Generation) (s : Stands g) (good : Good g a) (held : was_held g.core.plan (history g) a ≡ true) where
-  silent-live : has is_signal (history g) ≡ false → has_live g.core.plan (history g) (Some a) ≡ true
-  silent-live none = live-unsignalled g.core (history g) a s.stands s.right none good.named good.sound
-      (subst (λ u. (has_live g.core.plan u (Some a) || was_live g.core.plan u a) ≡ true) (unsignalled-whole (history g) none) held)
+module _ (a : List ℕ) (g : Generation) (s : Stands g) (good : Good g a) (held : was_held g.session.core.plan (history g) a ≡ true) where
+  silent-live : has is_signal (history g) ≡ false → has_live g.session.core.plan (history g) (Some a) ≡ true
+  silent-live none = live-unsignalled g.session.core (history g) a s.stands s.right none good.named good.sound
+      (subst (λ u. (has_live g.session.core.plan u (Some a) || was_live g.session.core.plan u a) ≡ true) (unsignalled-whole (history g) none) held)
 
-  among : has is_signal (history g) ≡ true → is_among a (addresses (table g.core.plan (history g))) ≡ true
-  among came = live-listed g.core.plan (before_signal (history g)) a (live-before g.core.plan (history g) a s.right came good.named good.sound
-      (subst (λ u. (has_live g.core.plan u (Some a) || was_live g.core.plan u a) ≡ true) (unsignalled-before (history g) came) held))
+  among : has is_signal (history g) ≡ true → is_among a (addresses (table g.session.core.plan (history g))) ≡ true
+  among came = live-listed g.session.core.plan (before_signal (history g)) a (live-before g.session.core.plan (history g) a s.right came good.named good.sound
+      (subst (λ u. (has_live g.session.core.plan u (Some a) || was_live g.session.core.plan u a) ≡ true) (unsignalled-before (history g) came) held))
 
   upgrade : has is_signal (history g) ≡ true → is_upgrade (signal_of (history g)) ≡ true
   upgrade came = let some = signal-some (history g) came in ap is_upgrade some.1 ∙ subst (λ k. is_upgrade_or_none k ≡ true) some.1 good.kind
 
-  going-live : has is_signal (history g) ≡ true → is_over g.core.plan (history g) ≡ false → has_live g.core.plan (history g) (Some a) ≡ true
+  going-live : has is_signal (history g) ≡ true → is_over g.session.core.plan (history g) ≡ false → has_live g.session.core.plan (history g) (Some a) ≡ true
   going-live came going =
-      picked (λ b. has_live g.core.plan (history g) (Some b)) a (table g.core.plan (history g))
-      (offered-live g.core (history g) s.stands s.right (upgrade came) going) (among came)
+      picked (λ b. has_live g.session.core.plan (history g) (Some b)) a (table g.session.core.plan (history g))
+      (offered-live g.session.core (history g) s.stands s.right (upgrade came) going) (among came)
 
   -- before a signal, and while the offer isn't over, it carries the address
   by-silence : (next : Option GenerationData) → has is_signal (history g) ≡ false → carries (data_of g) next a ≡ true
   by-silence next none =
-      quiet (has_live g.core.plan (history g) (Some a)) (has is_signal (history g)) (is_on_offer (data_of g) a) (is_on_its_way (data_of g) next a)
+      quiet (has_live g.session.core.plan (history g) (Some a)) (has is_signal (history g)) (is_on_offer (data_of g) a) (is_on_its_way (data_of g) next a)
       (silent-live none) none
     where
       quiet : (l s o w : Bool) → l ≡ true → s ≡ false → ((l && (not s || o)) || w) ≡ true
       quiet l s o w h k = rw (h, k) refl
 
-  by-offer : (next : Option GenerationData) → has is_signal (history g) ≡ true → is_over g.core.plan (history g) ≡ false → carries (data_of g) next a ≡ true
+  by-offer : (next : Option GenerationData) → has is_signal (history g) ≡ true → is_over g.session.core.plan (history g) ≡ false
+      → carries (data_of g) next a ≡ true
   by-offer next came going =
-      offered (has_live g.core.plan (history g) (Some a)) (has is_signal (history g)) (is_on_offer (data_of g) a) (is_on_its_way (data_of g) next a)
+      offered (has_live g.session.core.plan (history g) (Some a)) (has is_signal (history g)) (is_on_offer (data_of g) a) (is_on_its_way (data_of g) next a)
       (going-live came going)
-      (and_from (is_upgrade (signal_of (history g))) (not (is_over g.core.plan (history g)) && is_among a (addresses (table g.core.plan (history g))))
+      (and_from (is_upgrade (signal_of (history g)))
+      (not (is_over g.session.core.plan (history g)) && is_among a (addresses (table g.session.core.plan (history g))))
       (upgrade came)
-      (and_from (not (is_over g.core.plan (history g))) (is_among a (addresses (table g.core.plan (history g)))) (ap not going) (among came)))
+      (and_from (not (is_over g.session.core.plan (history g))) (is_among a (addresses (table g.session.core.plan (history g)))) (ap not going) (among came)))
     where
       offered : (l s o w : Bool) → l ≡ true → o ≡ true → ((l && (not s || o)) || w) ≡ true
       offered l s o w h k = rw (h, k) (either s)
@@ -113,25 +115,26 @@ module _ (a : List ℕ) (g : Generation) (s : Stands g) (good : Good g a) (held 
 
   -- once the message was sent
   module _ (came : has is_signal (history g) ≡ true) (sent : has is_sent (history g) ≡ true) where
-    offers : IsOffers g.core.plan (sent_message (history g)) (history g)
-    offers = sent-is g.core.plan (history g) s.right.fits (asks-due g.core (history g) s.stands s.right) sent
+    offers : IsOffers g.session.core.plan (sent_message (history g)) (history g)
+    offers = sent-is g.session.core.plan (history g) s.right.fits (asks-due g.session.core (history g) s.stands s.right) sent
 
     -- it names the address
     sent-names : names_address a (sent_message (history g)) ≡ true
-    sent-names = ap (names_address a) offers.1.0 ∙ encode-names (table g.core.plan (history g)) a (live-ascending g.core.plan (before_signal (history g)))
-        (encode-some (table g.core.plan (history g)) (subst (λ x. is_written x ≡ true) offers.1.0 offers.1.1))
-        (table-texts g.core.plan (before_signal (history g)) s.texts) ∙ among came
+    sent-names = ap (names_address a) offers.1.0
+        ∙ encode-names (table g.session.core.plan (history g)) a (live-ascending g.session.core.plan (before_signal (history g)))
+        (encode-some (table g.session.core.plan (history g)) (subst (λ x. is_written x ≡ true) offers.1.0 offers.1.1))
+        (table-texts g.session.core.plan (before_signal (history g)) s.texts) ∙ among came
 
     -- and is on its way until the next generation has received it
     by-flight : (h : Generation) → has is_receipt (history h) ≡ false → carries (data_of g) (Some (data_of h)) a ≡ true
     by-flight h none =
-        or_right (has_live g.core.plan (history g) (Some a) && (not (has is_signal (history g)) || is_on_offer (data_of g) a))
+        or_right (has_live g.session.core.plan (history g) (Some a) && (not (has is_signal (history g)) || is_on_offer (data_of g) a))
         (is_on_its_way (data_of g) (Some (data_of h)) a)
         (and_from (is_in_flight (channel_of (history g) (history h))) (names_address a (sent_message (history g)))
         (flies (has is_receipt (history h)) (has is_sent (history g)) (has is_join (history g)) (has is_open_receiver (history h)) none sent) sent-names)
 
     -- then the next one held it before any signal
-    held-next : (h : Generation) → PairRuns g h → Good h a → has is_receipt (history h) ≡ true → was_held h.core.plan (history h) a ≡ true
+    held-next : (h : Generation) → PairRuns g h → Good h a → has is_receipt (history h) ≡ true → was_held h.session.core.plan (history h) a ≡ true
     held-next h pair next_good received =
         let q = pair.quiet in
         let u : Record = unsignalled (history h) in
@@ -143,20 +146,20 @@ module _ (a : List ℕ) (g : Generation) (s : Stands g) (good : Good g a) (held 
           | inl was ↦ ap (has is_signal) (unsignalled-before (history h) was) ∙ silent-before (history h)
           | inr none ↦ ap (has is_signal) (unsignalled-whole (history h) none) ∙ none
         ] in
-        let sound : is_sound_for h.core.plan u a ≡ true = elim (cases_Bool (has is_signal (history h))) [
-          | inl was ↦ subst (λ r. is_sound_for h.core.plan r a ≡ true) (sym (unsignalled-before (history h) was))
-              (sound-before h.core.plan (history h) a next_good.sound)
-          | inr none ↦ subst (λ r. is_sound_for h.core.plan r a ≡ true) (sym (unsignalled-whole (history h) none)) next_good.sound
+        let sound : is_sound_for h.session.core.plan u a ≡ true = elim (cases_Bool (has is_signal (history h))) [
+          | inl was ↦ subst (λ r. is_sound_for h.session.core.plan r a ≡ true) (sym (unsignalled-before (history h) was))
+              (sound-before h.session.core.plan (history h) a next_good.sound)
+          | inr none ↦ subst (λ r. is_sound_for h.session.core.plan r a ≡ true) (sym (unsignalled-whole (history h) none)) next_good.sound
         ] in
-        let reads = read-as-sent g.core.plan (history g) (receipt_of u).bytes (receipt_of u).fds (sent_message (history g)) offers.1.0 offers.1.1
-        (table-texts g.core.plan (before_signal (history g)) s.texts) (q.stands.taken before) in
+        let reads = read-as-sent g.session.core.plan (history g) (receipt_of u).bytes (receipt_of u).fds (sent_message (history g)) offers.1.0 offers.1.1
+        (table-texts g.session.core.plan (before_signal (history g)) s.texts) (q.stands.taken before) in
         let live : has_live q.core.plan u (Some a) ≡ true =
-        elim (received-kept q.core.plan u a (addresses (table g.core.plan (history g))) q.stands.new_right before reads.0 reads.1 (among came)) [
+        elim (received-kept q.core.plan u a (addresses (table g.session.core.plan (history g))) q.stands.new_right before reads.0 reads.1 (among came)) [
           | inl there ↦ there
           | inr gone ↦ clash (has_given_up q.core.plan u a) gone (never-given-up q.core u a q.stands.new_stands q.stands.new_right silent
               (subst (λ p. is_named p a ≡ true) (sym q.plan) next_good.named) (subst (λ p. is_sound_for p u a ≡ true) (sym q.plan) sound))
         ] in
-        or_left (has_live h.core.plan u (Some a)) (was_live h.core.plan u a) (subst (λ p. has_live p u (Some a) ≡ true) q.plan live)
+        or_left (has_live h.session.core.plan u (Some a)) (was_live h.session.core.plan u a) (subst (λ p. has_live p u (Some a) ≡ true) q.plan live)
 
 -- the offer, once over, was sent
 sent-over : (over sent : Bool) → (not over || sent) ≡ true → over ≡ true → sent ≡ true
@@ -169,9 +172,9 @@ carried a (g ∷ []) l held good =
     let parts = good-parts g a (and_parts (is_good (data_of g) a) true good).0 in
     elim (cases_Bool (has is_signal (history g))) [
       | inr none ↦ by-silence a g l.stands parts held None none
-      | inl came ↦ elim (cases_Bool (is_over g.core.plan (history g))) [
+      | inl came ↦ elim (cases_Bool (is_over g.session.core.plan (history g))) [
         | inr going ↦ by-offer a g l.stands parts held None came going
-        | inl over ↦ clash (has is_sent (history g)) (sent-over (is_over g.core.plan (history g)) (has is_sent (history g)) parts.sent over) l.unsent
+        | inl over ↦ clash (has is_sent (history g)) (sent-over (is_over g.session.core.plan (history g)) (has is_sent (history g)) parts.sent over) l.unsent
       ]
     ]
 carried a (g ∷ h ∷ more) (s, pair, rest) held good =
@@ -182,9 +185,9 @@ carried a (g ∷ h ∷ more) (s, pair, rest) held good =
     → is_carried (map data_of (g ∷ h ∷ more)) a ≡ true = or_left (carries (data_of g) (Some (data_of h)) a) (is_carried (map data_of (h ∷ more)) a) in
     elim (cases_Bool (has is_signal (history g))) [
       | inr none ↦ here (by-silence a g s parts held (Some (data_of h)) none)
-      | inl came ↦ elim (cases_Bool (is_over g.core.plan (history g))) [
+      | inl came ↦ elim (cases_Bool (is_over g.session.core.plan (history g))) [
         | inr going ↦ here (by-offer a g s parts held (Some (data_of h)) came going)
-        | inl over ↦ (let sent = sent-over (is_over g.core.plan (history g)) (has is_sent (history g)) parts.sent over in
+        | inl over ↦ (let sent = sent-over (is_over g.session.core.plan (history g)) (has is_sent (history g)) parts.sent over in
             elim (cases_Bool (has is_receipt (history h))) [
               | inr none ↦ here (by-flight a g s parts held came sent h none)
               | inl received ↦

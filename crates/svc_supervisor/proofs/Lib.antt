@@ -1,4 +1,3 @@
-pub mod MarkLemmas
 pub mod GenerationLemmas
 pub mod QuietLemmas
 pub mod PairSteps

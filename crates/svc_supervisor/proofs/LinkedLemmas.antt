@@ -1,5 +1,5 @@
 -- A chain stays linked: as it begins, as a generation takes an event, and as one more is launched.
-use Rattle.std.proofs.Common.{ℕ, zero, suc, Bool, true, false, not, ◌&&◌, ◌||◌, List, [], ◌∷◌, ◌++◌, ◌≡◌, refl, ap, sym, ◌∙◌, subst, arith, map, set, Option, Some, None}
+use Rattle.std.proofs.Common.{ℕ, zero, suc, Bool, true, false, not, ◌&&◌, ◌||◌, List, [], ◌∷◌, ◌++◌, ◌≡◌, refl, ap, ◌∙◌, subst, arith, map, set, Option, Some, None}
 use Rattle.std.specs.Prelude.{slice_get, IfSome}
 use Rattle.std.proofs.lemmas.Bool.{and_parts, and_from}
 use Rattle.std.proofs.lemmas.Option.{same_Some}
@@ -10,19 +10,15 @@ use Rattle.svc_record.specs.declared.event.Event.TheVariants.{Sent}
 use Rattle.svc_record.specs.Record.{has, is_signal}
 use Rattle.svc_record.specs.Boot.{is_open_receiver}
 use Rattle.svc_record.specs.Fits.{fits}
-use Rattle.svc_core.specs.CoreData.{CoreData}
 use Rattle.svc_handover.specs.declared.pair.ChannelState.TheVariants.{Missing}
 use Rattle.svc_handover.specs.Channel.{channel_of, reached, is_taken, is_receipt, is_sent, is_join, old_may}
-use Rattle.svc_handover.specs.Operator.{unsignalled}
-use Rattle.svc_handover.specs.Law.{PairStands}
 use Rattle.svc_core.proofs.RecordLemmas.{has-tell}
-use Rattle.svc_handover.specs.Runs.{Runs}
 use Rattle.svc_supervisor.specs.declared.generation.Generation.{Generation}
 use Rattle.svc_supervisor.specs.ChainData.{GenerationData}
 use Rattle.svc_supervisor.specs.Chains.{may_come, may_come_at, before_may, channel_to, generation_before, has_taken_over, is_early, AreRight, AreScheduled}
 use Rattle.svc_supervisor.specs.Kept.{ChainKept}
-use Rattle.svc_supervisor.specs.Generations.{Begins, Takes, IsSame, Stands, EachStands, AllStand, PairRuns, Linked, history, data_of, servers_of, quiet_world}
-use Rattle.svc_supervisor.proofs.GenerationLemmas.{begun-history, stands-begun, taken-history, stands-taken, same-history, same-data, stands-same}
+use Rattle.svc_supervisor.specs.Generations.{Begins, Takes, Stands, EachStands, AllStand, PairRuns, Linked, history, data_of}
+use Rattle.svc_supervisor.proofs.GenerationLemmas.{begun-history, stands-begun, taken-history, stands-taken}
 use Rattle.svc_supervisor.proofs.PairSteps.{pair-old, pair-new, awaits-begun, awaits-taken, pair-scheduled}
 use Rattle.svc_supervisor.proofs.CarryLemmas.{keeps-carried}
 
@@ -80,7 +76,7 @@ module _ (g next : Generation) (e : Event) (said : Bool) (end : StepEnd) (t : Ta
   step-first [] may l = record {
     stands = stands-taken g next e said end l.stands t;
     awaits = awaits-taken g next e said end l.stands t (may-fits None None (data_of g) e may) (may-next None None (data_of g) e may) l.awaits;
-    unsent = ap (has is_sent) (taken-history g next e said end t) ∙ has-tell is_sent (λ a. refl) (Got e ∷ history g) t.keeps.told
+    unsent = ap (has is_sent) (taken-history g next e said end t) ∙ has-tell is_sent (λ a. refl) (Got e ∷ history g) t.takes.keeps.told
         ∙ neither (is_sent (Got e)) (has is_sent (history g)) (missing-unsent e (may-next None None (data_of g) e may)) l.unsent;
   }
   step-first (h ∷ []) may (s, pair, rest) = (
@@ -125,15 +121,15 @@ module _ (g next : Generation) (e : Event) (said : Bool) (end : StepEnd) (t : Ta
   linked-step (x ∷ h ∷ more) (suc (suc k)) here timely may (s, pair, rest) = (s, pair, linked-step (h ∷ more) (suc k) here timely may rest)
 
 -- one generation alone
-pub linked-first : (g : Generation) → Begins g.core.plan g → Linked (g ∷ [])
+pub linked-first : (g : Generation) → Begins g.session.core.plan g → Linked (g ∷ [])
 linked-first g b = record {
-  stands = stands-begun g.core.plan g b;
+  stands = stands-begun g.session.core.plan g b;
   awaits = awaits-begun g b;
-  unsent = ap (has is_sent) (begun-history g.core.plan g b) ∙ has-tell is_sent (λ a. refl) [] b.told;
+  unsent = ap (has is_sent) (begun-history g.session.core.plan g b) ∙ has-tell is_sent (λ a. refl) [] b.begins.begun.told;
 }
 
 -- one more at the end
-pub linked-launch : (gs : List Generation) (g : Generation) → Begins g.core.plan g → Linked gs → Linked (gs ++ g ∷ [])
+pub linked-launch : (gs : List Generation) (g : Generation) → Begins g.session.core.plan g → Linked gs → Linked (gs ++ g ∷ [])
 linked-launch [] g b l = linked-first g b
 linked-launch (x ∷ []) g b l = (l.stands, l.awaits g b, linked-first g b)
 linked-launch (x ∷ h ∷ more) g b (s, pair, rest) = (s, pair, linked-launch (h ∷ more) g b rest)
@@ -168,66 +164,6 @@ pub all-stand : (gs : List Generation) (k : ℕ) (g : Generation) → slice_get 
     → AllStand (generation_before gs k) g (slice_get gs (suc k))
 all-stand gs k g here l =
     record { earlier = stands-before gs k l; here = subst (λ (o : Option Generation). IfSome o Stands) here (stands-at gs k l); later = stands-at gs (suc k) l }
-
--- where only the room of one has changed, the chain is linked as before
-same-old : (g next h : Generation) → IsSame g next → servers_of g h ≡ servers_of next h
-same-old g next h s = let core = s.core in let entries = s.entries in let marks = s.marks in cc
-
-same-new : (f g next : Generation) → IsSame g next → servers_of f g ≡ servers_of f next
-same-new f g next s = let core = s.core in let entries = s.entries in let marks = s.marks in cc
-
-pair-same-old : (g next h : Generation) → IsSame g next → PairRuns g h → PairRuns next h
-pair-same-old g next h s pair = record {
-  schedule = pair.schedule;
-  runs = subst (λ (c : CoreData). Runs c.plan h.core.plan pair.schedule (servers_of next h)) (sym s.core)
-      (subst (Runs g.core.plan h.core.plan pair.schedule) (same-old g next h s) pair.runs);
-  quiet = record {
-    core = pair.quiet.core;
-    plan = pair.quiet.plan;
-    stands = subst (λ (c : CoreData). PairStands c pair.quiet.core (quiet_world next h)) (sym s.core)
-        (subst (λ q. PairStands g.core pair.quiet.core (record { old = q; new = unsignalled (history h); channel = channel_of q (unsignalled (history h)) }))
-        (sym (same-history g next s)) pair.quiet.stands);
-    timely = pair.quiet.timely;
-  };
-}
-
-pair-same-new : (f g next : Generation) → IsSame g next → PairRuns f g → PairRuns f next
-pair-same-new f g next s pair = record {
-  schedule = pair.schedule;
-  runs = subst (λ (c : CoreData). Runs f.core.plan c.plan pair.schedule (servers_of f next)) (sym s.core)
-      (subst (Runs f.core.plan g.core.plan pair.schedule) (same-new f g next s) pair.runs);
-  quiet = record {
-    core = pair.quiet.core;
-    plan = pair.quiet.plan ∙ ap (λ (c : CoreData). c.plan) (sym s.core);
-    stands = subst (λ q. PairStands f.core pair.quiet.core (record { old = history f; new = unsignalled q; channel = channel_of (history f) (unsignalled q) }))
-        (sym (same-history g next s)) pair.quiet.stands;
-    timely = subst (λ q. has is_signal q ≡ true → has is_receipt (unsignalled q) ≡ true) (sym (same-history g next s)) pair.quiet.timely;
-  };
-}
-
-module _ (g next : Generation) (s : IsSame g next) where
-  same-first : (gs : List Generation) → Linked (g ∷ gs) → Linked (next ∷ gs)
-  same-first [] l =
-      record {
-        stands = stands-same g next s l.stands;
-        awaits = λ h d. pair-same-old g next h s (l.awaits h d);
-        unsent = ap (has is_sent) (same-history g next s) ∙ l.unsent;
-      }
-  same-first (h ∷ more) (z, pair, rest) = (stands-same g next s z, pair-same-old g next h s pair, rest)
-
-  pub linked-same : (gs : List Generation) (k : ℕ) → slice_get gs k ≡ Some g → Linked gs → Linked (set gs k next)
-  linked-same [] k here l = absurd (cc)
-  linked-same (x ∷ more) zero here l = same-first more (subst (λ (y : Generation). Linked (y ∷ more)) (same_Some x g here) l)
-  linked-same (x ∷ []) (suc k) here l = absurd (cc)
-  linked-same (x ∷ h ∷ more) (suc zero) here (z, pair, rest) =
-      let same : h ≡ g = same_Some h g here in
-      (z, pair-same-new x g next s (subst (PairRuns x) same pair), same-first more (subst (λ (y : Generation). Linked (y ∷ more)) same rest))
-  linked-same (x ∷ h ∷ more) (suc (suc k)) here (z, pair, rest) = (z, pair, linked-same (h ∷ more) (suc k) here rest)
-
-  pub data-same : (gs : List Generation) (k : ℕ) → slice_get gs k ≡ Some g → map data_of (set gs k next) ≡ map data_of gs
-  data-same [] k here = refl
-  data-same (x ∷ more) zero here = ap (λ (d : GenerationData). d ∷ map data_of more) (same-data g next s ∙ sym (ap data_of (same_Some x g here)))
-  data-same (x ∷ more) (suc k) here = ap (λ (ds : List GenerationData). data_of x ∷ ds) (data-same more k here)
 
 -- what contracts see of a chain in which one generation has changed
 pub data-set : (gs : List Generation) (k : ℕ) (g : Generation) → map data_of (set gs k g) ≡ set (map data_of gs) k (data_of g)

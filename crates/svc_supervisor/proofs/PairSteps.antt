@@ -25,7 +25,7 @@ use Rattle.svc_supervisor.specs.Marks.{marks_of, channel_between}
 use Rattle.svc_supervisor.specs.Chains.{IsScheduled}
 use Rattle.svc_supervisor.specs.Generations.{Begins, Takes, Stands, Quiet, PairRuns, Awaits, history, data_of, servers_of, quiet_world}
 use Rattle.svc_supervisor.proofs.QuietLemmas.{unsignalled-whole, unsignalled-step, signal-tell, receipt-unsignalled}
-use Rattle.svc_supervisor.proofs.GenerationLemmas.{begun-history, stands-begun, step_of, server-takes, taken-history, stands-taken}
+use Rattle.svc_supervisor.proofs.GenerationLemmas.{begun-history, stands-begun, step_of, taken-history, stands-taken}
 
 -- the channel between two generations is the one read off their records
 pub channel-read : (g h : Generation) → Stands g → Stands h → channel_between g.marks h.marks ≡ channel_of (history g) (history h)
@@ -38,14 +38,16 @@ world-eq w q r o n c = ap (λ (x : ChannelState). record { old = w.old; new = w.
     ∙ ap (λ (y : Record). record { old = q; new = y; channel = channel_of q y }) n
 
 -- before any signal to the newer one the two stand as they are
-quiet-whole : (f g : Generation) (schedule : List PairStep) → Runs f.core.plan g.core.plan schedule (servers_of f g) → has is_signal (history g) ≡ false
+quiet-whole : (f g : Generation) (schedule : List PairStep) → Runs f.session.core.plan g.session.core.plan schedule (servers_of f g)
+    → has is_signal (history g) ≡ false
     → Quiet f g
 quiet-whole f g schedule runs silent = record {
-  core = g.core;
+  core = g.session.core;
   plan = refl;
-  stands = subst (λ u. PairStands f.core g.core (record { old = history f; new = u; channel = channel_of (history f) u }))
+  stands = subst (λ u. PairStands f.session.core g.session.core (record { old = history f; new = u; channel = channel_of (history f) u }))
       (sym (unsignalled-whole (history g) silent))
-      (subst (PairStands f.core g.core) (world-eq runs.world (history f) (history g) (sym runs.old_is) (sym runs.new_is) runs.stands.channel) runs.stands);
+      (subst (PairStands f.session.core g.session.core)
+      (world-eq runs.world (history f) (history g) (sym runs.old_is) (sym runs.new_is) runs.stands.channel) runs.stands);
   timely = λ came. absurd (clash (has is_signal (history g)) came silent);
 }
   where
@@ -68,28 +70,30 @@ channel-quiet f g q = elim (cases_Bool (has is_signal (history g))) [
     taken-is t false s j l m x y = absurd (cc)
 
 -- an event of the older one leaves them so
-quiet-old : (g next h : Generation) (e : Event) (said : Bool) (end : StepEnd) → Takes g next e said end → fits g.core.plan (history g) e ≡ true
+quiet-old : (g next h : Generation) (e : Event) (said : Bool) (end : StepEnd) → Takes g next e said end → fits g.session.core.plan (history g) e ≡ true
     → old_may (channel_of (history g) (history h)) e ≡ true → Quiet g h → Quiet next h
 quiet-old g next h e said end t fitting may q =
-    let allowed : is_allowed g.core.plan q.core.plan (quiet_world g h) (step_of true e said) ≡ true =
-    and_from (fits g.core.plan (history g) e) (old_may (channel_of (history g) (unsignalled (history h))) e) fitting
+    let allowed : is_allowed g.session.core.plan q.core.plan (quiet_world g h) (step_of true e said) ≡ true =
+    and_from (fits g.session.core.plan (history g) e) (old_may (channel_of (history g) (unsignalled (history h))) e) fitting
     (subst (λ c. old_may c e ≡ true) (channel-quiet g h q) may) in
-    let stood = stands-old g.core next.core q.core (quiet_world g h) (step_of true e said) [] t.told end refl t.plan_is q.stands allowed t.keeps in
-    let there : old_step (quiet_world g h) (step_of true e said) t.keeps.told ≡ quiet_world next h =
-    world-eq (old_step (quiet_world g h) (step_of true e said) t.keeps.told) (history next) (unsignalled (history h))
+    let stood = stands-old g.session.core next.session.core q.core (quiet_world g h) (step_of true e said) [] t.told end refl t.takes.plan_is q.stands
+    allowed t.takes.keeps in
+    let there : old_step (quiet_world g h) (step_of true e said) t.takes.keeps.told ≡ quiet_world next h =
+    world-eq (old_step (quiet_world g h) (step_of true e said) t.takes.keeps.told) (history next) (unsignalled (history h))
     (sym (taken-history g next e said end t)) refl stood.channel in
-    record { core = q.core; plan = q.plan; stands = subst (PairStands next.core q.core) there stood; timely = q.timely }
+    record { core = q.core; plan = q.plan; stands = subst (PairStands next.session.core q.core) there stood; timely = q.timely }
 
 -- and so does one of the newer one, which is no signal before its receipt
 quiet-new : (f g next : Generation) (schedule : List PairStep) (e : Event) (said : Bool) (end : StepEnd) → Takes g next e said end
-    → Runs f.core.plan next.core.plan schedule (servers_of f next) → (is_signal (Got e) ≡ true → has is_receipt (history g) ≡ true) → Quiet f g → Quiet f next
+    → Runs f.session.core.plan next.session.core.plan schedule (servers_of f next) → (is_signal (Got e) ≡ true → has is_receipt (history g) ≡ true)
+    → Quiet f g → Quiet f next
 quiet-new f g next schedule e said end t runs timely q = elim (cases_Bool (has is_signal (history g) || is_signal (Got e))) [
   | inl at ↦ (let same : unsignalled (history next) ≡ unsignalled (history g) =
-      ap unsignalled (taken-history g next e said end t) ∙ unsignalled-step (history g) e t.keeps.told at in
+      ap unsignalled (taken-history g next e said end t) ∙ unsignalled-step (history g) e t.takes.keeps.told at in
       record {
         core = q.core;
-        plan = q.plan ∙ sym t.plan_is;
-        stands = subst (λ u. PairStands f.core q.core (record { old = history f; new = u; channel = channel_of (history f) u })) (sym same) q.stands;
+        plan = q.plan ∙ sym t.takes.plan_is;
+        stands = subst (λ u. PairStands f.session.core q.core (record { old = history f; new = u; channel = channel_of (history f) u })) (sym same) q.stands;
         timely = λ came. subst (λ u. has is_receipt u ≡ true) (sym same) (elim (cases_Bool (has is_signal (history g))) [
           | inl was ↦ q.timely was
           | inr none ↦
@@ -99,7 +103,7 @@ quiet-new f g next schedule e said end t runs timely q = elim (cases_Bool (has i
       })
   | inr none ↦
       quiet-whole f next schedule runs
-      (ap (has is_signal) (taken-history g next e said end t) ∙ signal-tell (Got e ∷ history g) t.keeps.told
+      (ap (has is_signal) (taken-history g next e said end t) ∙ signal-tell (Got e ∷ history g) t.takes.keeps.told
       ∙ turned (is_signal (Got e)) (has is_signal (history g)) none)
 ]
   where
@@ -117,62 +121,71 @@ quiet-new f g next schedule e said end t runs timely q = elim (cases_Bool (has i
         or-first false k = refl
 
 -- both have begun
-pub pair-first : (g h : Generation) → Begins g.core.plan g → Begins h.core.plan h → PairRuns g h
+pub pair-first : (g h : Generation) → Begins g.session.core.plan g → Begins h.session.core.plan h → PairRuns g h
 pair-first g h b d =
-    let runs : Runs g.core.plan h.core.plan [] (servers_of g h) = runs-first g.core.plan h.core.plan (servers_of g h) b.told d.told b.begins d.begins
-    (ap (λ (m : Marks). channel_between m h.marks) b.marks ∙ ap (channel_between (marks_of (tell [] b.told))) d.marks ∙ sym (read-first b.told d.told))
+    let runs : Runs g.session.core.plan h.session.core.plan [] (servers_of g h) =
+    runs-first g.session.core.plan h.session.core.plan (servers_of g h) b.told d.told b.begins d.begins
+    (channel-read g h (stands-begun g.session.core.plan g b) (stands-begun h.session.core.plan h d)
+    ∙ ap (λ q. channel_of q (history h)) (begun-history g.session.core.plan g b)
+    ∙ ap (channel_of (tell [] b.begins.begun.told)) (begun-history h.session.core.plan h d)
+    ∙ sym (read-first b.begins.begun.told d.begins.begun.told) ∙ ap (λ told. after_told told Missing) (sym d.begins.begun.appended))
     b.texts in
-    record { schedule = []; runs = runs; quiet = quiet-whole g h [] runs (ap (has is_signal) (begun-history h.core.plan h d) ∙ signal-tell [] d.told) }
+    record {
+      schedule = [];
+      runs = runs;
+      quiet = quiet-whole g h [] runs (ap (has is_signal) (begun-history h.session.core.plan h d) ∙ signal-tell [] d.begins.begun.told);
+    }
 
 -- the old one takes an event that the channel allows
 pub pair-old : (g next h : Generation) (e : Event) (said : Bool) (end : StepEnd) → Stands g → Stands h → Takes g next e said end
-    → fits g.core.plan (history g) e ≡ true → old_may (channel_of (history g) (history h)) e ≡ true → PairRuns g h → PairRuns next h
+    → fits g.session.core.plan (history g) e ≡ true → old_may (channel_of (history g) (history h)) e ≡ true → PairRuns g h → PairRuns next h
 pair-old g next h e said end s z t fitting may pair =
     let w : World = record { old = history g; new = history h; channel = channel_of (history g) (history h) } in
-    let allowed : is_allowed g.core.plan h.core.plan w (step_of true e said) ≡ true =
-    and_from (fits g.core.plan (history g) e) (old_may (channel_of (history g) (history h)) e) fitting may in
-    let moved : after_old e (channel_of (history g) (history h)) ≡ channel_of (tell (Got e ∷ history g) t.keeps.told) (history h) =
-    read-step g.core.plan h.core.plan w (step_of true e said) t.keeps.told refl allowed in
+    let allowed : is_allowed g.session.core.plan h.session.core.plan w (step_of true e said) ≡ true =
+    and_from (fits g.session.core.plan (history g) e) (old_may (channel_of (history g) (history h)) e) fitting may in
+    let moved : after_old e (channel_of (history g) (history h)) ≡ channel_of (tell (Got e ∷ history g) t.takes.keeps.told) (history h) =
+    read-step g.session.core.plan h.session.core.plan w (step_of true e said) t.takes.keeps.told refl allowed in
     let channel : channel_between next.marks h.marks ≡ after_old e (channel_between g.marks h.marks) =
     channel-read next h (stands-taken g next e said end s t) z ∙ ap (λ q. channel_of q (history h)) (taken-history g next e said end t) ∙ sym moved
     ∙ ap (after_old e) (sym (channel-read g h s z)) in
-    let there : is_allowed g.core.plan h.core.plan pair.runs.world (step_of true e said) ≡ true =
-    and_from (fits g.core.plan pair.runs.world.old e) (old_may pair.runs.world.channel e)
-    (subst (λ q. fits g.core.plan q e ≡ true) pair.runs.old_is fitting)
+    let there : is_allowed g.session.core.plan h.session.core.plan pair.runs.world (step_of true e said) ≡ true =
+    and_from (fits g.session.core.plan pair.runs.world.old e) (old_may pair.runs.world.channel e)
+    (subst (λ q. fits g.session.core.plan q e ≡ true) pair.runs.old_is fitting)
     (subst (λ c. old_may c e ≡ true) (sym (channel-read g h s z) ∙ pair.runs.channel_is) may) in
-    let grown : Runs g.core.plan h.core.plan (pair.schedule ++ step_of true e said ∷ []) (servers_of next h) =
-    grows-old (servers_of g h) (servers_of next h) (step_of true e said) t.told refl
-    (server-takes true g next e said end t) refl channel g.core.plan h.core.plan pair.schedule pair.runs there in
+    let grown : Runs g.session.core.plan h.session.core.plan (pair.schedule ++ step_of true e said ∷ []) (servers_of next h) =
+    grows-old (servers_of g h) (servers_of next h) (step_of true e said) end t.told refl t.takes refl channel
+    g.session.core.plan h.session.core.plan pair.schedule pair.runs there in
     record {
       schedule = pair.schedule ++ step_of true e said ∷ [];
-      runs = subst (λ p. Runs p h.core.plan (pair.schedule ++ step_of true e said ∷ []) (servers_of next h)) (sym t.plan_is) grown;
+      runs = subst (λ p. Runs p h.session.core.plan (pair.schedule ++ step_of true e said ∷ []) (servers_of next h)) (sym t.takes.plan_is) grown;
       quiet = quiet-old g next h e said end t fitting may pair.quiet;
     }
 
 -- the new one does
 pub pair-new : (f g next : Generation) (e : Event) (said : Bool) (end : StepEnd) → Stands f → Stands g → Takes g next e said end
-    → fits g.core.plan (history g) e ≡ true → new_may (channel_of (history f) (history g)) (history f) e ≡ true
+    → fits g.session.core.plan (history g) e ≡ true → new_may (channel_of (history f) (history g)) (history f) e ≡ true
     → (is_signal (Got e) ≡ true → has is_receipt (history g) ≡ true) → PairRuns f g → PairRuns f next
 pair-new f g next e said end z s t fitting may timely pair =
     let w : World = record { old = history f; new = history g; channel = channel_of (history f) (history g) } in
-    let allowed : is_allowed f.core.plan g.core.plan w (step_of false e said) ≡ true =
-    and_from (fits g.core.plan (history g) e) (new_may (channel_of (history f) (history g)) (history f) e) fitting may in
-    let moved : after_told t.keeps.told (after_new e (channel_of (history f) (history g))) ≡ channel_of (history f) (tell (Got e ∷ history g) t.keeps.told) =
-    read-step f.core.plan g.core.plan w (step_of false e said) t.keeps.told refl allowed in
+    let allowed : is_allowed f.session.core.plan g.session.core.plan w (step_of false e said) ≡ true =
+    and_from (fits g.session.core.plan (history g) e) (new_may (channel_of (history f) (history g)) (history f) e) fitting may in
+    let moved : after_told t.takes.keeps.told (after_new e (channel_of (history f) (history g)))
+    ≡ channel_of (history f) (tell (Got e ∷ history g) t.takes.keeps.told) =
+    read-step f.session.core.plan g.session.core.plan w (step_of false e said) t.takes.keeps.told refl allowed in
     let channel : channel_between f.marks next.marks ≡ after_told t.told (after_new e (channel_between f.marks g.marks)) =
     channel-read f next z (stands-taken g next e said end s t) ∙ ap (channel_of (history f)) (taken-history g next e said end t) ∙ sym moved
-    ∙ ap (λ told. after_told told (after_new e (channel_of (history f) (history g)))) (sym t.keeps.appended)
+    ∙ ap (λ told. after_told told (after_new e (channel_of (history f) (history g)))) (sym t.takes.keeps.appended)
     ∙ ap (λ c. after_told t.told (after_new e c)) (sym (channel-read f g z s)) in
-    let there : is_allowed f.core.plan g.core.plan pair.runs.world (step_of false e said) ≡ true =
-    and_from (fits g.core.plan pair.runs.world.new e) (new_may pair.runs.world.channel pair.runs.world.old e)
-    (subst (λ q. fits g.core.plan q e ≡ true) pair.runs.new_is fitting)
+    let there : is_allowed f.session.core.plan g.session.core.plan pair.runs.world (step_of false e said) ≡ true =
+    and_from (fits g.session.core.plan pair.runs.world.new e) (new_may pair.runs.world.channel pair.runs.world.old e)
+    (subst (λ q. fits g.session.core.plan q e ≡ true) pair.runs.new_is fitting)
     (subst (λ q. new_may pair.runs.world.channel q e ≡ true) pair.runs.old_is
     (subst (λ c. new_may c (history f) e ≡ true) (sym (channel-read f g z s) ∙ pair.runs.channel_is) may)) in
-    let grown : Runs f.core.plan g.core.plan (pair.schedule ++ step_of false e said ∷ []) (servers_of f next) =
-    grows-new (servers_of f g) (servers_of f next) (step_of false e said) t.told refl
-    (server-takes false g next e said end t) refl channel f.core.plan g.core.plan pair.schedule pair.runs there in
-    let runs : Runs f.core.plan next.core.plan (pair.schedule ++ step_of false e said ∷ []) (servers_of f next) =
-    subst (λ n. Runs f.core.plan n (pair.schedule ++ step_of false e said ∷ []) (servers_of f next)) (sym t.plan_is) grown in
+    let grown : Runs f.session.core.plan g.session.core.plan (pair.schedule ++ step_of false e said ∷ []) (servers_of f next) =
+    grows-new (servers_of f g) (servers_of f next) (step_of false e said) end t.told refl t.takes refl channel
+    f.session.core.plan g.session.core.plan pair.schedule pair.runs there in
+    let runs : Runs f.session.core.plan next.session.core.plan (pair.schedule ++ step_of false e said ∷ []) (servers_of f next) =
+    subst (λ n. Runs f.session.core.plan n (pair.schedule ++ step_of false e said ∷ []) (servers_of f next)) (sym t.takes.plan_is) grown in
     record {
       schedule = pair.schedule ++ step_of false e said
           ∷ [];
@@ -186,18 +199,19 @@ missing-any c Connected h = absurd (cc)
 missing-any c Sent h = absurd (cc)
 missing-any c _ h = refl
 
-pub awaits-begun : (g : Generation) → Begins g.core.plan g → Awaits g
+pub awaits-begun : (g : Generation) → Begins g.session.core.plan g → Awaits g
 awaits-begun g b h d = pair-first g h b d
 
-pub awaits-taken : (g next : Generation) (e : Event) (said : Bool) (end : StepEnd) → Stands g → Takes g next e said end → fits g.core.plan (history g) e ≡ true
+pub awaits-taken : (g next : Generation) (e : Event) (said : Bool) (end : StepEnd) → Stands g → Takes g next e said end
+    → fits g.session.core.plan (history g) e ≡ true
     → old_may Missing e ≡ true → Awaits g → Awaits next
 awaits-taken g next e said end s t fitting may awaits h d =
-    pair-old g next h e said end s (stands-begun h.core.plan h d) t fitting (missing-any (channel_of (history g) (history h)) e may) (awaits h d)
+    pair-old g next h e said end s (stands-begun h.session.core.plan h d) t fitting (missing-any (channel_of (history g) (history h)) e may) (awaits h d)
 
 -- so their records are what a schedule leaves
 pub pair-scheduled : (g h : Generation) → PairRuns g h → IsScheduled (data_of g) (data_of h)
 pair-scheduled g h pair = record {
   schedule = pair.schedule;
-  over = subst (HandsOver g.core.plan h.core.plan pair.schedule)
+  over = subst (HandsOver g.session.core.plan h.session.core.plan pair.schedule)
       (world-eq pair.runs.world (history g) (history h) (sym pair.runs.old_is) (sym pair.runs.new_is) pair.runs.stands.channel) pair.runs.over;
 }

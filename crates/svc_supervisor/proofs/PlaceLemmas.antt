@@ -1,6 +1,6 @@
 -- A generation at its place in a chain, and the causes of refusals there.
 use Rattle.std.proofs.Common.{ℕ, zero, suc, Bool, true, false, ◌&&◌, List, [], ◌∷◌, ◌++◌, ◌≡◌, ◌<◌, refl, ap, sym, ◌∙◌, subst, arith, length, map, get_or, set, Option, Some, None}
-use Rattle.std.specs.Prelude.{slice_get, IfSome, is_err, OnOk, OnErr, IfOk, Result, Ok, Err, ◌↔◌}
+use Rattle.std.specs.Prelude.{slice_get, IfSome, OnErr, IfOk, Result, Ok, Err, ◌↔◌}
 use Rattle.std.specs.Option.{option_map}
 use Rattle.std.proofs.lemmas.Option.{slice_get-map, slice_get_read}
 use Rattle.svc_record.specs.declared.plan.Plan.{Plan}
@@ -20,14 +20,10 @@ use Rattle.svc_supervisor.specs.Generations.{Begins, Takes, Stands, AllStand, Li
 use Rattle.svc_supervisor.proofs.GenerationLemmas.{begun, took}
 use Rattle.svc_supervisor.proofs.LinkedLemmas.{stands-at, all-stand, linked-launch, linked-step, data-set}
 
-pub unless-err : {X E : Type 0} (r : Result X E) (P : Type 0) → is_err r ≡ false → OnOk r P → P
-unless-err (Ok x) P h p = p
-unless-err (Err e) P h p = absurd (cc)
-
 -- the test of an event by the core is that by its record
-pub fits-here : (g : Generation) (e : Event) (b : Bool) → ((q : Record) → Represents g.core q → (b ≡ true) ↔ Fits g.core.plan q e) → Stands g
-    → b ≡ fits g.core.plan (history g) e
-fits-here g e b means s = bool_same b (fits g.core.plan (history g) e) (means (history g) s.stands).0 (means (history g) s.stands).1
+pub fits-here : (g : Generation) (e : Event) (b : Bool) → ((q : Record) → Represents g.session.core q → (b ≡ true) ↔ Fits g.session.core.plan q e) → Stands g
+    → b ≡ fits g.session.core.plan (history g) e
+fits-here g e b means s = bool_same b (fits g.session.core.plan (history g) e) (means (history g) s.stands).0 (means (history g) s.stands).1
 
 -- what holds of the one at a place
 pub here-is : {X : Type 0} (xs : List X) (k : ℕ) (x : X) → k < length xs → x ≡ get_or xs k x → slice_get xs k ≡ Some x
@@ -141,7 +137,7 @@ data-more [] g = refl
 data-more (x ∷ more) g = ap (λ (ds : List GenerationData). data_of x ∷ ds) (data-more more g)
 
 -- a generation that begins is one of its own plan
-pub begins-own : (p : Plan) (g : Generation) → Begins p g → Begins g.core.plan g
+pub begins-own : (p : Plan) (g : Generation) → Begins p g → Begins g.session.core.plan g
 begins-own p g b = subst (λ x. Begins x g) (sym b.begins.plan_is) b
 
 pub launches-at : (gs : List Generation) (p : Plan) (g : Generation) → MayLaunch gs p g → Linked gs → Launches (map data_of gs) (map data_of (gs ++ g ∷ [])) p

@@ -1,26 +1,22 @@
 -- What a chain keeps of its generations, whose cores contracts don't see.
-use Rattle.std.specs.Prelude.{ℕ, true, false, ◌≡◌, ◌<◌, ◌≤◌, List, [], ◌∷◌, ◌++◌, Option, None, length, map, reverse, IfSome, Bool, slice_get}
-use Rattle.svc_base.specs.Items.{list_of, spare}
+use Rattle.std.specs.Prelude.{ℕ, true, false, ◌≡◌, ◌<◌, ◌≤◌, List, [], ◌∷◌, Option, None, length, map, reverse, IfSome, Bool, slice_get}
 use Rattle.svc_record.specs.declared.plan.Plan.{Plan}
 use Rattle.svc_record.specs.declared.action.Action.{Action}
 use Rattle.svc_record.specs.declared.action.StepEnd.{StepEnd}
-use Rattle.svc_record.specs.declared.entry.Entry.TheVariants.{Got}
 use Rattle.svc_record.specs.declared.event.Event.{Event}
-use Rattle.svc_record.specs.Record.{Record, has, tell, is_signal}
-use Rattle.svc_record.specs.Judging.{judged_at, judgements}
+use Rattle.svc_record.specs.Record.{Record, has, is_signal}
 use Rattle.svc_record.specs.Right.{Right}
 use Rattle.svc_record.specs.Tail.{closing_actions, tail_right}
 use Rattle.svc_core.specs.CoreData.{CoreData}
-use Rattle.svc_core.specs.Stands.{Represents, StepKeeps, MayCome}
-use Rattle.svc_core.specs.Rooms.{open_count, step_room}
-use Rattle.svc_handover.specs.declared.recorded.Recorded.{Recorded}
+use Rattle.svc_core.specs.Stands.{Represents, MayCome}
+use Rattle.svc_session.specs.Sessions.{Begins as SessionBegins, Takes as SessionTakes}
 use Rattle.svc_handover.specs.declared.servers.Servers.{Servers}
 use Rattle.svc_handover.specs.declared.pair.PairStep.{PairStep}
 use Rattle.svc_handover.specs.Channel.{channel_of, is_receipt, is_sent}
 use Rattle.svc_handover.specs.Pair.{World}
 use Rattle.svc_handover.specs.Operator.{unsignalled}
 use Rattle.svc_handover.specs.Law.{HasTexts, PairStands}
-use Rattle.svc_handover.specs.Runs.{told_entries, Begins as ServerBegins, Runs}
+use Rattle.svc_handover.specs.Runs.{Runs}
 use Rattle.svc_supervisor.specs.declared.generation.Generation.{Generation}
 use Rattle.svc_supervisor.specs.Marks.{marks_of, channel_between}
 use Rattle.svc_supervisor.specs.ChainData.{GenerationData, ChainData}
@@ -28,68 +24,40 @@ use Rattle.svc_supervisor.specs.Chains.{closed, is_early, may_come_at, MayBegin,
 
 -- its record, the newest entry first
 abbrev pub history : Generation → Record
-history g = reverse (list_of g.entries)
+history g = reverse g.session.entries
 
 abbrev pub data_of : Generation → GenerationData
-data_of g = record { plan = g.core.plan; history = history g }
-
--- the generation as one of two servers, whose room doesn't matter
-abbrev pub server_of : Generation → Recorded
-server_of g = record { core = g.core; entries = (list_of g.entries, 0) }
+data_of g = record { plan = g.session.core.plan; history = history g }
 
 -- two generations as the servers of a handover
 abbrev pub servers_of : Generation → Generation → Servers
-servers_of old new = record { predecessor = server_of old; successor = server_of new; channel = channel_between old.marks new.marks }
-
--- its record and its list of closes have room for closing all that is open
-pub record HasRoom (g : Generation) : Type 0 where
-  pub unclosed : list_of g.closing ≡ []
-  pub closing : open_count g.core ≤ spare g.closing
-  pub entries : open_count g.core ≤ spare g.entries
-
--- and for closing after one more step, and for what that tells
-pub record HasStepRoom (g : Generation) : Type 0 where
-  pub closing : step_room g.core ≤ spare g.closing
-  pub entries : step_room g.core ≤ spare g.entries
+servers_of old new = record { predecessor = old.session; successor = new.session; channel = channel_between old.marks new.marks }
 
 -- the generation of the plan has begun
 pub record Begins (p : Plan) (g : Generation) : Type 0 where
   pub told : List Action
-  pub begins : ServerBegins p (server_of g) told
-  pub marks : g.marks ≡ marks_of (tell [] told)
+  pub begins : SessionBegins p g.session told
+  pub marks : g.marks ≡ marks_of (history g)
   pub texts : HasTexts p
-  pub room : HasRoom g
 
 -- the generation took the event
 pub record Takes (old new : Generation) (e : Event) (said : Bool) (end : StepEnd) : Type 0 where
   pub told : List Action
-  pub keeps : StepKeeps old.core new.core e [] told end
-  pub plan_is : new.core.plan ≡ old.core.plan
-  pub judged : judgements told ≡ judged_at old.core.plan e said
-  pub entries : list_of new.entries ≡ (list_of old.entries ++ Got e ∷ []) ++ told_entries told
-  pub marks : (q : Record) → old.marks ≡ marks_of q → new.marks ≡ marks_of (tell (Got e ∷ q) told)
-  pub room : list_of old.closing ≡ [] → HasRoom new
+  pub takes : SessionTakes old.session new.session e said end told
+  pub marks : old.marks ≡ marks_of (history old) → new.marks ≡ marks_of (history new)
 
--- only its room may have changed, and only for more
-pub record IsSame (old new : Generation) : Type 0 where
-  pub core : new.core ≡ old.core
-  pub entries : list_of new.entries ≡ list_of old.entries
-  pub marks : new.marks ≡ old.marks
-  pub closing : list_of new.closing ≡ list_of old.closing
-  pub room : (spare old.entries ≤ spare new.entries) × (spare old.closing ≤ spare new.closing)
-
--- its core and its marks are those of its record, which is right
+-- its core and its marks are those of its record, which is right, and it wasn't closed
 pub record Stands (g : Generation) : Type 0 where
-  pub stands : Represents g.core (history g)
-  pub right : Right g.core.plan (history g)
+  pub stands : Represents g.session.core (history g)
+  pub right : Right g.session.core.plan (history g)
   pub marks : g.marks ≡ marks_of (history g)
-  pub texts : HasTexts g.core.plan
-  pub room : HasRoom g
+  pub texts : HasTexts g.session.core.plan
+  pub unclosed : g.session.closed ≡ false
 
 -- each of its live connections has been cut, and each open descriptor closed, so that each number that it was brought has been closed once
 pub record IsClosed (old new : Generation) : Type 0 where
   pub closed : data_of new ≡ closed (data_of old)
-  pub whole : tail_right (history old) None (closing_actions old.core.plan (history old) None) ≡ true
+  pub whole : tail_right (history old) None (closing_actions old.session.core.plan (history old) None) ≡ true
 
 -- each generation does
 abbrev pub EachStands : List Generation → Type 0
@@ -109,19 +77,19 @@ quiet_world old new = record { old = history old; new = unsignalled (history new
 -- a core of the newer one stood for what came before its first signal, which came only after it had received
 pub record Quiet (old new : Generation) : Type 0 where
   pub core : CoreData
-  pub plan : core.plan ≡ new.core.plan
-  pub stands : PairStands old.core core (quiet_world old new)
+  pub plan : core.plan ≡ new.session.core.plan
+  pub stands : PairStands old.session.core core (quiet_world old new)
   pub timely : has is_signal (history new) ≡ true → has is_receipt (unsignalled (history new)) ≡ true
 
 -- the two have run some schedule as the old and the new server of a handover
 pub record PairRuns (old new : Generation) : Type 0 where
   pub schedule : List PairStep
-  pub runs : Runs old.core.plan new.core.plan schedule (servers_of old new)
+  pub runs : Runs old.session.core.plan new.session.core.plan schedule (servers_of old new)
   pub quiet : Quiet old new
 
 -- so have the generation and any successor that has just begun
 abbrev pub Awaits : Generation → Type 0
-Awaits g = (new : Generation) → Begins new.core.plan new → PairRuns g new
+Awaits g = (new : Generation) → Begins new.session.core.plan new → PairRuns g new
 
 -- the newest stands and awaits its successor, to which it hasn't sent anything
 pub record IsNewest (g : Generation) : Type 0 where
@@ -147,7 +115,7 @@ chain_of gs finished = record { generations = map data_of gs; finished = finishe
 -- the event may come to the generation at this place, by its core; and where the chain is linked, in time and by the channels too
 pub record MayStep (gs : List Generation) (k : ℕ) (e : Event) : Type 0 where
   pub inside : k < length gs
-  pub core : IfSome (slice_get gs k) (λ g. MayCome g.core e)
+  pub core : IfSome (slice_get gs k) (λ g. MayCome g.session.core e)
   pub timely : Linked gs → is_early (map data_of gs) k e ≡ false
   pub may : Linked gs → may_come_at (map data_of gs) k e ≡ true
 

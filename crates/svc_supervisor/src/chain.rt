@@ -72,7 +72,7 @@ impl Chain {
         requires begun { generation < length self.now.generations }
         ensures { IfSome (slice_get self.now.generations generation) (λ g. g.history ≡ reverse (list_of result.now)) }
     {
-        &self.generations[generation as usize].entries
+        self.generations[generation as usize].session.entries()
     }
 
     /// Begins the next generation, and answers its number. In this order: a plan that isn't valid, that has

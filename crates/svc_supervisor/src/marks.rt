@@ -1,13 +1,11 @@
 //! What a server has done of its two handovers.
 
-ghost use Rattle.std.specs.Prelude.{◌≡◌, ◌∷◌, []};
-ghost use Rattle.svc_record.specs.declared.entry.Entry.TheVariants.{Got};
-ghost use Rattle.svc_record.specs.Record.{Record, tell};
+ghost use Rattle.std.specs.Prelude.{◌≡◌, ◌∷◌, ◌++◌, [], reverse};
+ghost use Rattle.svc_record.specs.Record.{Record};
 ghost use Rattle.svc_supervisor.specs.Marks.{marks_of, channel_between};
 
-use svc_core::{Action, Event};
+use svc_core::{Action, Entry, Event};
 use svc_handover::ChannelState;
-use svc_handover::channel::opens_receiver;
 
 /// How far a server has come in taking over from the one before it, and in handing over to the next.
 #[derive(Clone, Copy, PartialEq, Eq, Debug)]
@@ -35,35 +33,36 @@ impl Marks {
         }
     }
 
-    /// After one more event.
-    pub(crate) fn after_event(self, event: &Event) -> Marks
-        ensures { (q : Record) → self ≡ marks_of q → result ≡ marks_of (Got event.now ∷ q) }
+    /// After these entries.
+    pub(crate) fn after(self, entries: &[Entry]) -> Marks
+        ensures { (q : Record) → self ≡ marks_of q → result ≡ marks_of (reverse entries.now ++ q) }
     {
-        match event {
-            Event::Received(_, _) => Marks {
+        let mut marks = self;
+        for entry in entries {
+            marks = marks.with(entry);
+        }
+        marks
+    }
+
+    /// After one more entry.
+    fn with(self, entry: &Entry) -> Marks
+        ensures { (q : Record) → self ≡ marks_of q → result ≡ marks_of (entry.now ∷ q) }
+    {
+        match entry {
+            Entry::Got(Event::Received(_, _)) => Marks {
                 taken: true,
                 ..self
             },
-            Event::Connected => Marks {
+            Entry::Got(Event::Connected) => Marks {
                 joined: true,
                 ..self
             },
-            Event::Sent => Marks { sent: true, ..self },
-            _ => self,
-        }
-    }
-
-    /// After the server told these actions.
-    pub(crate) fn after_told(self, told: &[Action]) -> Marks
-        ensures { (q : Record) → self ≡ marks_of q → result ≡ marks_of (tell q told.now) }
-    {
-        if opens_receiver(told) {
-            Marks {
+            Entry::Got(Event::Sent) => Marks { sent: true, ..self },
+            Entry::Told(Action::OpenReceiver) => Marks {
                 listens: true,
                 ..self
-            }
-        } else {
-            self
+            },
+            _ => self,
         }
     }
 }

@@ -50,7 +50,7 @@ fn generation_after(generations: &[Generation], index: usize) -> Option<&Generat
 /// Whether the event may come to the generation with this number.
 fn may_come_at(generations: &[Generation], index: usize, event: &Event) -> bool
     requires begun { index < length generations.now }
-    ensures may { IsTrue result → IfSome (slice_get generations.now index) (λ g. MayCome g.core event.now) }
+    ensures may { IsTrue result → IfSome (slice_get generations.now index) (λ g. MayCome g.session.core event.now) }
     ensures means { Linked generations.now → result ≡ may_come_at (map data_of generations.now) index event.now }
 {
     let before = generation_before(generations, index);
@@ -93,7 +93,7 @@ pub(crate) fn check_step(
 }
 
 /// The generation with this number takes the event, which may come to it. Where memory is refused the event
-/// comes back, and only room has changed.
+/// comes back, and nothing has changed.
 pub(crate) fn take_at(
     generations: &mut [Generation],
     index: usize,

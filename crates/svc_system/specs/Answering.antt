@@ -1,5 +1,5 @@
 -- Which event answers an action.
-use Rattle.std.specs.Prelude.{ℕ, ◌≡◌, Option, Some, None, IfSome, IsSomeAnd, true}
+use Rattle.std.specs.Prelude.{ℕ, ◌≡◌, Option, Some, None, IfSome, IsSomeAnd, Bool, true, false}
 use Rattle.svc_record.specs.declared.action.Action.{Action}
 use Rattle.svc_record.specs.declared.action.Action.TheVariants as actions
 use Rattle.svc_record.specs.declared.event.Event.{Event}
@@ -80,3 +80,9 @@ Answers actions.TryReceive answer = AnswersOnHandover actions.TryReceive answer
 Answers actions.Connect answer = AnswersOnHandover actions.Connect answer
 Answers (actions.Send bytes fds) answer = AnswersOnHandover (actions.Send bytes fds) answer
 Answers action answer = AnswersOnEndpoint action answer
+
+-- whether an answer says that an endpoint listens
+unfoldable pub says_listening : Event → Bool
+says_listening (events.Bound s i fd) = true
+says_listening (events.Adopted s i) = true
+says_listening event = false

@@ -33,6 +33,15 @@ pub fn is_loopback(address: &SocketAddr) -> bool {
 }
 
 impl Address {
+    /// It is the same address.
+    pub(crate) fn is(&self, other: &Address) -> bool {
+        match (self, other) {
+            (Address::Tcp(address), Address::Tcp(other)) => address == other,
+            (Address::Unix(path), Address::Unix(other)) => path == other,
+            _ => false,
+        }
+    }
+
     /// The first address that a text of TCP resolves to, or the path.
     pub(crate) fn of<R: Net>(
         rt: &R,

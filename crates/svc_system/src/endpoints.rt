@@ -312,6 +312,11 @@ impl Endpoints {
         }
     }
 
+    /// One of them is at this address.
+    pub(crate) fn have(&self, address: &Address) -> bool {
+        self.rows.iter().any(|row| row.address.is(address))
+    }
+
     /// The socket that the endpoint has from now on.
     pub(crate) fn give(&mut self, at: usize, fd: u64) {
         if let Some(row) = self.rows.get_mut(at) {

@@ -7,6 +7,7 @@ mod connections;
 mod endpoints;
 mod forward;
 mod handover;
+mod inherited;
 mod listeners;
 mod numbers;
 mod offer;
@@ -22,6 +23,7 @@ mod tokens;
 
 pub use address::{ControlAddress, is_loopback};
 pub use handover::Handover;
+pub use inherited::{Inherited, MOST_PASSED};
 pub use offer::UpgradeAnswer;
 pub use orders::{Order, OrderLine, order_of};
 pub use report::LogState;

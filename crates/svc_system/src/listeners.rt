@@ -37,6 +37,12 @@ pub(crate) enum BindRefused {
     Failed,
 }
 
+impl From<NoMemory> for BindRefused {
+    fn from(_: NoMemory) -> Self {
+        BindRefused::Failed
+    }
+}
+
 /// What one try to accept gave.
 #[derive(Drop)]
 pub(crate) enum Came {
@@ -139,7 +145,7 @@ impl Socket {
     }
 
     /// From now on its calls don't wait, where that can be had.
-    fn is_unwaiting(&self) -> bool {
+    pub(crate) fn is_unwaiting(&self) -> bool {
         match self {
             Socket::Tcp(listener) => listener.set_nonblocking(true).is_ok(),
             Socket::Unix(listener) => listener.set_nonblocking(true).is_ok(),

@@ -1,26 +1,29 @@
 //! The operating system's side of one server: what is told is performed on its sockets, and what comes
 //! of them is given as events.
 
-ghost use Rattle.std.specs.Prelude.{◌≡◌, ◌≤◌, true, false, length, None, IfOk, IfSome};
+ghost use Rattle.std.specs.Prelude.{◌≡◌, ◌≤◌, true, false, length, None, IsSome, IfSome};
 ghost use Rattle.svc_record.specs.declared.entry.Entry.TheVariants.{Got};
 ghost use Rattle.svc_record.specs.Descriptors.{numbers_of};
 ghost use Rattle.svc_system.specs.Offers.{is_offered};
-ghost use Rattle.svc_system.specs.Answering.{Answers, AnswersAlone, AnswersAdopt, AnswersBind, AnswersOnConnection, AnswersOnEndpoint};
+ghost use Rattle.svc_system.specs.Answering.{says_listening, Answers, AnswersAlone, AnswersAdopt, AnswersBind, AnswersOnConnection, AnswersOnEndpoint};
 ghost use Rattle.svc_system.specs.Given.{GivesFew, GivesFewItem};
 
 mod handing;
+mod opening;
 
-use crate::address::{Address, ControlAddress};
+use crate::address::Address;
 use crate::connections::{Connections, Turn};
 use crate::endpoints::Endpoints;
 use crate::handover::Taking;
+use crate::inherited::Inherited;
 use crate::listeners::{BindRefused, Bound, Came, Listeners, Socket};
 use crate::offer::Offer;
-use crate::operators::{Admitted, ControlRefused, Operators};
+use crate::operators::{Admitted, Operators};
 use crate::readiness::Readiness;
 use crate::report::{LogState, Report, SocketCounts};
 use crate::times::{Times, sooner};
 use crate::tokens::Ready;
+pub use opening::OpenRefused;
 use std::alloc::Global;
 use std::fs::File;
 use std::mem;
@@ -29,10 +32,8 @@ use std::net::{Net, TcpListener, TcpStream};
 use std::rt::Files;
 use std::time::Clock;
 use svc_base::{NoMemory, Text};
-use svc_record::{Action, Event, ExecutionPhase, Item, Plan, ShutdownSignal};
+use svc_record::{Action, Event, ExecutionPhase, Item, ShutdownSignal};
 use svc_socket::Peer;
-use svc_work::WorkLine;
-use thiserror::Error;
 
 /// The error number of want of memory.
 const NO_MEMORY: u32 = 12;
@@ -42,42 +43,6 @@ const REST: u64 = 1000;
 
 /// So many milliseconds an accept loop rests after a failure.
 const PAUSE: u64 = 100;
-
-/// Why a server's side of the operating system can't be opened.
-#[derive(Clone, Copy, Debug, PartialEq, Eq, Error)]
-pub enum OpenRefused {
-    /// There was no memory.
-    #[error("out of memory")]
-    NoMemory,
-    /// The clock can't be read.
-    #[error("the clock can't be read")]
-    Clock,
-    /// Nothing can be watched: the system has no descriptor left, or no memory.
-    #[error("the system can't watch sockets")]
-    Readiness,
-    /// Somebody listens at the control address.
-    #[error("the control address is in use")]
-    ControlInUse,
-    /// The control address can't be listened at.
-    #[error("the control address can't be bound")]
-    Control,
-}
-
-impl From<NoMemory> for OpenRefused {
-    fn from(_: NoMemory) -> Self {
-        OpenRefused::NoMemory
-    }
-}
-
-impl From<ControlRefused> for OpenRefused {
-    fn from(refused: ControlRefused) -> Self {
-        match refused {
-            ControlRefused::NoMemory => OpenRefused::NoMemory,
-            ControlRefused::InUse => OpenRefused::ControlInUse,
-            ControlRefused::Failed => OpenRefused::Control,
-        }
-    }
-}
 
 /// An event that was found and not given yet.
 #[derive(Drop)]
@@ -126,34 +91,8 @@ pub struct System<
     offer: Offer,
     /// An operator asked for an upgrade, and no moment was told since.
     is_asked: bool,
-}
-
-/// What a server has of the system before its tables.
-#[derive(Drop)]
-struct Basis {
-    times: Times,
-    operators: Operators,
-    readiness: Readiness,
-    taking: Option<Taking>,
-}
-
-/// What watches sockets, with the operators' socket in it.
-fn watched<R: Net>(
-    rt: &R,
-    alloc: Global,
-    operators: &mut Operators,
-) -> Result<Readiness, OpenRefused> {
-    match Readiness::open(rt, alloc) {
-        Ok(readiness) => {
-            if operators.watch(&readiness) {
-                Ok(readiness)
-            } else {
-                drop(readiness);
-                Err(OpenRefused::Readiness)
-            }
-        }
-        Err(_) => Err(OpenRefused::Readiness),
-    }
+    /// The sockets that the program was started with, as far as no endpoint has them.
+    inherited: Inherited,
 }
 
 /// The path that goes with an address.
@@ -164,26 +103,20 @@ fn path_of(alloc: Global, address: &Address) -> Result<Option<Text>, NoMemory> {
     }
 }
 
-/// Binds an address, and adds what listens there.
-fn bind<R: Net<Listener = TcpListener, Stream = TcpStream> + Files>(
+/// What listens at an address from now on: a socket that the program was started with, whose path is its maker's, or a new
+/// one with the path that goes with it.
+fn bound_at<R: Net<Listener = TcpListener, Stream = TcpStream> + Files>(
     rt: &R,
     alloc: Global,
-    listeners: &mut Listeners,
+    inherited: &mut Inherited,
     address: &Address,
-) -> Result<u64, BindRefused> {
-    let Ok(path) = path_of(alloc, address) else {
-        return Err(BindRefused::Failed);
-    };
+) -> Result<Bound, BindRefused> {
+    if let Some(socket) = inherited.take(address) {
+        return Ok(Bound::new(alloc, socket, None)?);
+    }
+    let path = path_of(alloc, address)?;
     match Socket::bind(rt, address) {
-        Ok(socket) => {
-            let Ok(bound) = Bound::new(alloc, socket, path) else {
-                return Err(BindRefused::Failed);
-            };
-            match listeners.add(bound) {
-                Ok(number) => Ok(number),
-                Err(NoMemory) => Err(BindRefused::Failed),
-            }
-        }
+        Ok(socket) => Ok(Bound::new(alloc, socket, path)?),
         Err(refused) => {
             drop(path);
             Err(refused)
@@ -191,105 +124,17 @@ fn bind<R: Net<Listener = TcpListener, Stream = TcpStream> + Files>(
     }
 }
 
-/// The operators' socket, and what watches it.
-fn listened<R: Net<Listener = TcpListener, Stream = TcpStream> + Files<File = File>>(
+/// Has something listen at an address, and adds it.
+fn bind<R: Net<Listener = TcpListener, Stream = TcpStream> + Files>(
     rt: &R,
     alloc: Global,
-    control: ControlAddress,
-) -> Result<(Operators, Readiness), OpenRefused> {
-    let mut operators = Operators::open(rt, alloc, control)?;
-    match watched(rt, alloc, &mut operators) {
-        Ok(readiness) => Ok((operators, readiness)),
-        Err(refused) => {
-            operators.close(rt);
-            drop(operators);
-            Err(refused)
-        }
-    }
-}
-
-/// The tables of a server with this plan, whose services do what these lines say.
-fn tables<R: Net>(
-    rt: &R,
-    alloc: Global,
-    plan: &Plan,
-    works: &[WorkLine],
-) -> Result<(Endpoints, Connections), NoMemory> {
-    let endpoints = Endpoints::learn(rt, alloc, plan, works)?;
-    match Connections::new(alloc) {
-        Ok(connections) => Ok((endpoints, connections)),
-        Err(NoMemory) => {
-            drop(endpoints);
-            Err(NoMemory)
-        }
-    }
-}
-
-/// What a server has of the system whose control socket isn't there yet.
-fn unwatched<R: Net<Listener = TcpListener, Stream = TcpStream> + Files<File = File> + Clock>(
-    rt: &R,
-    alloc: Global,
-) -> Result<(Times, Operators, Readiness), OpenRefused> {
-    let Ok(times) = Times::start(rt) else {
-        return Err(OpenRefused::Clock);
-    };
-    let operators = Operators::absent(rt, alloc)?;
-    match Readiness::open(rt, alloc) {
-        Ok(readiness) => Ok((times, operators, readiness)),
-        Err(_) => {
-            drop(operators);
-            Err(OpenRefused::Readiness)
-        }
-    }
-}
-
-/// The system's side of a server with this plan over this basis. Nothing was told yet.
-fn with_tables<'a, R: Net<Listener = TcpListener, Stream = TcpStream> + Files<File = File> + Clock>(
-    rt: &'a R,
-    alloc: Global,
-    plan: &Plan,
-    works: &[WorkLine],
-    basis: Basis,
-) -> Result<System<'a, R>, OpenRefused>
-    ensures goes_on { IfOk result (λ system. system.has_ended ≡ false) }
-    ensures serves { IfOk result (λ system. system.is_forsaken ≡ false) }
-{
-    match tables(rt, alloc, plan, works) {
-        Ok((endpoints, connections)) => {
-            let Basis {
-                times,
-                operators,
-                readiness,
-                taking,
-            } = basis;
-            Ok(System {
-                rt,
-                alloc,
-                readiness,
-                times,
-                endpoints,
-                listeners: Listeners::new(alloc),
-                connections,
-                operators,
-                phase: ExecutionPhase::Setup,
-                signal: None,
-                found: None,
-                failed_connects: 0,
-                log: LogState::Absent,
-                is_draining: false,
-                is_forsaken: false,
-                has_ended: false,
-                has_failed: false,
-                taking,
-                offer: Offer::Idle,
-                is_asked: false,
-            })
-        }
-        Err(NoMemory) => {
-            basis.operators.close(rt);
-            drop(basis);
-            Err(OpenRefused::NoMemory)
-        }
+    listeners: &mut Listeners,
+    inherited: &mut Inherited,
+    address: &Address,
+) -> Result<u64, BindRefused> {
+    match bound_at(rt, alloc, inherited, address) {
+        Ok(bound) => Ok(listeners.add(bound)?),
+        Err(refused) => Err(refused),
     }
 }
 
@@ -297,38 +142,6 @@ impl<'a, R: Net<Listener = TcpListener, Stream = TcpStream> + Files<File = File>
     'a,
     R,
 > {
-    /// The system's side of a server with this plan, whose services do what these lines say: a later line goes
-    /// before an earlier one, and a service without a line echoes. Nothing was told yet. Operators are listened
-    /// to from now on.
-    pub fn open(
-        rt: &'a R,
-        alloc: Global,
-        plan: &Plan,
-        works: &[WorkLine],
-        control: ControlAddress,
-    ) -> Result<Self, OpenRefused>
-        ensures goes_on { IfOk result (λ system. system.has_ended ≡ false) }
-        ensures serves { IfOk result (λ system. system.is_forsaken ≡ false) }
-    {
-        let Ok(times) = Times::start(rt) else {
-            drop(control);
-            return Err(OpenRefused::Clock);
-        };
-        let (operators, readiness) = listened(rt, alloc, control)?;
-        with_tables(
-            rt,
-            alloc,
-            plan,
-            works,
-            Basis {
-                times,
-                operators,
-                readiness,
-                taking: None,
-            },
-        )
-    }
-
     /// Every service was given up, so the system itself asked the server to end.
     pub fn is_forsaken(&self) -> bool
         ensures { result ≡ self.now.is_forsaken }
@@ -339,6 +152,21 @@ impl<'a, R: Net<Listener = TcpListener, Stream = TcpStream> + Files<File = File>
     /// The server has ended: the control address is free again.
     pub fn close(&self) {
         self.operators.close(self.rt);
+    }
+
+    /// The program was started with these sockets: where one of them listens at an endpoint's address, the endpoint has it
+    /// in place of a new one, the first time that it is bound. Those of no endpoint are closed; answers how many.
+    pub fn inherit(&mut self, inherited: Inherited) -> usize
+        ensures offer { self.new.offer ≡ self.old.offer }
+        ensures listeners { self.new.listeners ≡ self.old.listeners }
+    {
+        let count = inherited.rows.len();
+        self.inherited = inherited;
+        let endpoints = &self.endpoints;
+        self.inherited
+            .rows
+            .retain(|row| endpoints.have(row.address()));
+        count.saturating_sub(self.inherited.rows.len())
     }
 
     /// It has its turn at once.
@@ -352,7 +180,10 @@ impl<'a, R: Net<Listener = TcpListener, Stream = TcpStream> + Files<File = File>
     }
 
     /// The socket of the endpoint in this place has its turn.
-    fn wake_endpoint(&mut self, at: usize) {
+    fn wake_endpoint(&mut self, at: usize)
+        ensures offer { self.new.offer ≡ self.old.offer }
+        ensures listeners { self.new.listeners ≡ self.old.listeners }
+    {
         let fd = match self.endpoints.rows.get(at) {
             Some(row) => row.fd,
             None => None,
@@ -363,7 +194,10 @@ impl<'a, R: Net<Listener = TcpListener, Stream = TcpStream> + Files<File = File>
     }
 
     /// The sockets of all endpoints have their turn.
-    fn wake_all(&mut self) {
+    fn wake_all(&mut self)
+        ensures offer { self.new.offer ≡ self.old.offer }
+        ensures listeners { self.new.listeners ≡ self.old.listeners }
+    {
         for at in 0..self.endpoints.rows.len() {
             self.wake_endpoint(at);
         }
@@ -380,7 +214,13 @@ impl<'a, R: Net<Listener = TcpListener, Stream = TcpStream> + Files<File = File>
         let Some(row) = self.endpoints.rows.get(at) else {
             return Event::BindFailed(service, number);
         };
-        match bind(self.rt, self.alloc, &mut self.listeners, &row.address) {
+        match bind(
+            self.rt,
+            self.alloc,
+            &mut self.listeners,
+            &mut self.inherited,
+            &row.address,
+        ) {
             Ok(fd) => self.opened(at, service, number, fd),
             Err(BindRefused::InUse) => Event::InUse(service, number),
             Err(BindRefused::Failed) => Event::BindFailed(service, number),
@@ -553,14 +393,21 @@ impl<'a, R: Net<Listener = TcpListener, Stream = TcpStream> + Files<File = File>
 
     /// An endpoint of the service was told to listen. Where the service serves from now on, its sockets have
     /// their turn, since connections may have come before.
-    fn hold(&mut self, service: u32) {
+    fn hold(&mut self, service: u32)
+        ensures offer { self.new.offer ≡ self.old.offer }
+        ensures listeners { self.new.listeners ≡ self.old.listeners }
+    {
         if self.endpoints.hold(service) {
             self.wake_all();
         }
     }
 
     /// This answer is given to the server now.
-    pub fn give(&mut self, answer: &Event) {
+    pub fn give(&mut self, answer: &Event)
+        ensures others { says_listening answer.now ≡ false → self.new ≡ self.old }
+        ensures offer { self.new.offer ≡ self.old.offer }
+        ensures listeners { self.new.listeners ≡ self.old.listeners }
+    {
         if let Event::Bound(s, _, _) | Event::Adopted(s, _) = answer {
             self.hold(*s);
         }
@@ -828,12 +675,18 @@ impl<'a, R: Net<Listener = TcpListener, Stream = TcpStream> + Files<File = File>
     }
 
     /// There is something to give, or nothing is ready.
-    fn is_ahead(&self) -> bool {
+    fn is_ahead(&self) -> bool
+        ensures ended { self.now.has_ended ≡ true → result ≡ true }
+        ensures found { IsSome self.now.found → result ≡ true }
+    {
         self.has_ended || self.has_failed || self.found.is_some() || self.is_at_rest()
     }
 
     /// What is ready has its turn, until there is something to give or nothing is ready. It doesn't wait.
-    pub fn advance(&mut self) {
+    pub fn advance(&mut self)
+        ensures ended { self.old.has_ended ≡ true → self.new ≡ self.old }
+        ensures found { IsSome self.old.found → self.new ≡ self.old }
+    {
         for _ in 0..u64::MAX {
             if self.is_ahead() {
                 return;

@@ -1,7 +1,9 @@
-//! A load client: `client ADDRESS THREADS SECONDS [MARKS]`.
+//! A load client: `client ADDRESS THREADS SECONDS`.
 //!
 //! Each thread asks without a pause, with a connection of its own for each ask: it sends 32 bytes that no
-//! other ask sends, wants them back, and closes. Where lines come on standard input, each is the beginning of an upgrade.
+//! other ask sends, wants them back, and closes. Where lines come on standard input, each is the beginning of an upgrade,
+//! but for `killing` and `killed`, which stand around the kill of a program: asks that were under way then and were reset
+//! count as inside of it, and not as reset.
 //! At the end it prints a line of JSON: how many asks, what went wrong, and the latencies in microseconds of
 //! the asks that began within a second of an upgrade's beginning, and of all others.
 
@@ -20,10 +22,40 @@ struct Seen {
     /// When each ask began, in microseconds since the start, and how long it took.
     asks: Vec<(u32, u32)>,
     refused: u64,
-    reset: u64,
+    /// When each ask that was reset, or ended early, began and failed.
+    reset: Vec<(u32, u32)>,
     other: u64,
     wrong: u64,
     errors: Vec<String>,
+}
+
+/// When something began that is told on standard input, in microseconds since the start.
+#[derive(Default)]
+struct Marks {
+    upgrades: Vec<u32>,
+    /// From right before a kill to right after it.
+    kills: Vec<(u32, u32)>,
+}
+
+impl Marks {
+    fn note(&mut self, line: &str, now: u32) {
+        match (line, self.kills.last_mut()) {
+            ("killing", _) => self.kills.push((now, u32::MAX)),
+            ("killed", Some(kill)) => kill.1 = now,
+            _ => self.upgrades.push(now),
+        }
+    }
+
+    /// Whether it is within a second of an upgrade's beginning.
+    fn is_in_upgrade(&self, began: u32) -> bool {
+        let second = |mark: u32| mark..mark.saturating_add(1_000_000);
+        self.upgrades.iter().any(|mark| second(*mark).contains(&began))
+    }
+
+    /// Whether a program was killed between these.
+    fn is_in_kill(&self, (began, failed): (u32, u32)) -> bool {
+        self.kills.iter().any(|(before, after)| began <= *after && failed >= *before)
+    }
 }
 
 /// Whether the text came back; else what went wrong, and at which call.
@@ -57,7 +89,8 @@ fn work(address: SocketAddr, thread: u64, start: Instant, on: &AtomicBool) -> Se
                 match error.kind() {
                     io::ErrorKind::ConnectionRefused => seen.refused += 1,
                     io::ErrorKind::ConnectionReset | io::ErrorKind::UnexpectedEof => {
-                        seen.reset += 1
+                        let failed = start.elapsed().as_micros() as u32;
+                        seen.reset.push((began.as_micros() as u32, failed));
                     }
                     _ => seen.other += 1,
                 }
@@ -91,7 +124,7 @@ fn main() -> Result<(), Box<dyn std::error::Error>> {
     let seconds: f64 = words[3].parse()?;
     let start = Instant::now();
     let on = AtomicBool::new(true);
-    let marks = Mutex::new(Vec::new());
+    let marks = Mutex::new(Marks::default());
     let all = thread::scope(|scope| {
         let workers: Vec<_> = (0..threads)
             .map(|number| {
@@ -102,11 +135,9 @@ fn main() -> Result<(), Box<dyn std::error::Error>> {
             })
             .collect();
         let marking = scope.spawn(|| {
-            for line in io::stdin().lock().lines() {
-                if line.is_err() || line.is_ok_and(|line| line == "end") {
-                    break;
-                }
-                marks.lock().unwrap().push(start.elapsed().as_micros() as u32);
+            let lines = io::stdin().lock().lines().map_while(Result::ok);
+            for line in lines.take_while(|line| line != "end") {
+                marks.lock().unwrap().note(&line, start.elapsed().as_micros() as u32);
             }
         });
         if seconds > 0.0 {
@@ -119,12 +150,9 @@ fn main() -> Result<(), Box<dyn std::error::Error>> {
     });
     let took = start.elapsed().as_secs_f64();
     let marks = marks.into_inner()?;
-    let in_upgrade = |began: u32| {
-        marks.iter().any(|mark| (*mark..mark.saturating_add(1_000_000)).contains(&began))
-    };
     let (mut within, mut outside) = (Vec::new(), Vec::new());
     for (began, micros) in all.iter().flat_map(|seen| &seen.asks) {
-        if in_upgrade(*began) { within.push(*micros) } else { outside.push(*micros) }
+        if marks.is_in_upgrade(*began) { within.push(*micros) } else { outside.push(*micros) }
     }
     let sum = |part: fn(&Seen) -> u64| all.iter().map(part).sum::<u64>();
     let errors: Vec<String> = all
@@ -133,11 +161,14 @@ fn main() -> Result<(), Box<dyn std::error::Error>> {
         .map(|error| format!("{error:?}"))
         .collect();
     let asks = within.len() + outside.len();
+    let resets = all.iter().flat_map(|seen| &seen.reset).copied();
+    let (inside, reset): (Vec<_>, Vec<_>) = resets.partition(|reset| marks.is_in_kill(*reset));
     println!(
-        "{{\"asks\":{asks},\"seconds\":{took:.1},\"per_second\":{:.0},\"refused\":{},\"reset\":{},\"other\":{},\"wrong\":{},\"within\":{},\"outside\":{},\"errors\":[{}]}}",
+        "{{\"asks\":{asks},\"seconds\":{took:.1},\"per_second\":{:.0},\"refused\":{},\"reset\":{},\"inside_killed\":{},\"other\":{},\"wrong\":{},\"within\":{},\"outside\":{},\"errors\":[{}]}}",
         asks as f64 / took,
         sum(|seen| seen.refused),
-        sum(|seen| seen.reset),
+        reset.len(),
+        inside.len(),
         sum(|seen| seen.other),
         sum(|seen| seen.wrong),
         quantiles(within),

@@ -36,13 +36,15 @@ use std::time::Duration;
 use tokio::net::UnixStream;
 use tokio::runtime::Handle;
 use tokio::sync::{broadcast, mpsc, oneshot, watch};
-use tokio::task::JoinHandle;
-use tokio::time::{Instant, sleep_until};
+use tokio::task::{JoinHandle, spawn_local};
+use tokio::time::{Instant, sleep, sleep_until};
 
 /// How many connections may be done with before the core hears of it at once.
 const MANY_FINISHED: usize = 128;
 /// How long an accept loop rests where the core says so.
 const REST: Duration = Duration::from_secs(1);
+/// How long a program that serves on waits until it tries again to say so.
+const AGAIN: Duration = Duration::from_secs(1);
 
 /// What happens outside of the core.
 pub(crate) enum Input {
@@ -76,6 +78,10 @@ pub(crate) enum Input {
     Successor(UnixStream, Option<Process>),
     /// The message was sent, or wasn't.
     Sent(io::Result<()>),
+    /// It is time to try again to say that this program serves.
+    ClaimAgain,
+    /// Another program serves, though this one went on.
+    Overtaken,
     /// Another program serves.
     Succeeded,
     /// That program is gone.
@@ -179,6 +185,8 @@ pub(crate) struct Setup {
     pub(crate) pool: Vec<Held>,
     /// The run takes over from a program that serves, or served.
     pub(crate) takes_over: bool,
+    /// Nobody else served at its begin: the run goes on also where its pid file can't be made.
+    pub(crate) serves_on: bool,
 }
 
 /// How a run of a core ended.
@@ -186,6 +194,8 @@ pub(crate) enum Drive {
     Done(Outcome),
     /// Nobody serves: a new run is to be begun, over these sockets.
     Anew(Vec<Held>),
+    /// The same, where the program that served has died before it handed over.
+    Instead(Vec<Held>),
 }
 
 /// What the operator wants.
@@ -225,6 +235,9 @@ pub(crate) struct Driver {
     shutdown: watch::Sender<bool>,
     running: bool,
     claimed: bool,
+    /// It serves though that couldn't be said, which was logged, and is tried again later.
+    goes_on: bool,
+    claims_later: bool,
     drains: bool,
     wanted: Wanted,
     receiver: Option<Rc<PrivateSocket>>,
@@ -279,6 +292,8 @@ impl Driver {
             shutdown,
             running: false,
             claimed: false,
+            goes_on: false,
+            claims_later: false,
             drains: false,
             wanted: Wanted::Nothing,
             receiver: None,
@@ -506,6 +521,8 @@ impl Driver {
                 }
             }
             Input::Finished => {}
+            Input::ClaimAgain => self.claims_later = false,
+            Input::Overtaken => self.overtaken(),
             Input::Told(actions) => actions.into_iter().for_each(|action| self.carry_out(action)),
             Input::Refused(event, error) => self.refused(&event, error),
             Input::Ready(service) => {
@@ -614,7 +631,7 @@ impl Driver {
             progress.failed || (progress.started && progress.held.len() == all)
         };
         let mut services = self.setup.services.iter().zip(&self.progress);
-        if self.claimed || !self.running || self.wanted != Wanted::Nothing {
+        if self.claimed || self.claims_later || !self.running || self.wanted != Wanted::Nothing {
             return;
         }
         if !services.all(is_settled) {
@@ -633,8 +650,11 @@ impl Driver {
         }
         self.drop_pool();
         *self.setup.shared.held.borrow_mut() = self.held();
-        if let Err(error) = self.setup.shared.claim(self.setup.takes_over) {
-            return self.fail(error);
+        if let Err(error) = self.setup.shared.claim(self.setup.takes_over, None) {
+            return self.claim_failed(error);
+        }
+        if self.setup.serves_on {
+            self.tasks.push(spawn_local(Rc::clone(&self.setup.shared).watch()));
         }
         self.setup.link = None;
         let listeners = self.sockets.values().map(|socket| socket.listener.get_ref());
@@ -644,6 +664,25 @@ impl Driver {
         let own = process::id();
         self.setup.shared.notify(&format!("READY=1\nMAINPID={own}\nSTATUS=Running{lacking}"));
         tracing::info!("serving");
+    }
+
+    /// The outside can't be told that this program serves.
+    fn claim_failed(&mut self, error: ServerError) {
+        if !self.setup.serves_on {
+            return self.fail(error);
+        }
+        if matches!(error, ServerError::AlreadyRunning { .. }) {
+            return self.overtaken();
+        }
+        (self.claimed, self.claims_later) = (false, true);
+        if !std::mem::replace(&mut self.goes_on, true) {
+            say!(warn, "{error}; this program serves all the same, and tries again each second");
+        }
+        let inputs = self.inputs.clone();
+        spawn_local(async move {
+            sleep(AGAIN).await;
+            inputs.give(Input::ClaimAgain);
+        });
     }
 
     /// What nobody took goes. Where it is at an address that no service has, that is said.
@@ -744,7 +783,7 @@ impl Driver {
                 let is_left = self.wanted == Wanted::Handover
                     && shared.succession.is_some()
                     && !shared.is_over.get()
-                    && !shared.is_succeeded.get();
+                    && !shared.is_followed();
                 match is_left {
                     true => Ok(Drive::Anew(std::mem::take(&mut self.handed))),
                     false => Ok(Drive::Done(Outcome::Served)),
@@ -752,7 +791,7 @@ impl Driver {
             }
             End::Tested => Ok(Drive::Done(Outcome::Tested)),
             End::Transfer if self.predecessor_ended == Some(Ended::Died) => {
-                Ok(Drive::Anew(std::mem::take(&mut self.setup.pool)))
+                Ok(Drive::Instead(std::mem::take(&mut self.setup.pool)))
             }
             End::NoSender => Err(ServerError::NoPredecessor),
             End::BadMessage => Err(ServerError::BadMessage),

@@ -107,6 +107,11 @@ impl PrivateSocket {
         made
     }
 
+    /// What stands at its path where it does.
+    pub(crate) fn id(&self) -> Option<FileId> {
+        self.id
+    }
+
     /// The next connection of the same user, and its process. Others are sent away.
     pub(crate) async fn accept(&self, spare: &RefCell<Spare>) -> (UnixStream, Option<Process>) {
         loop {

@@ -549,13 +549,16 @@ impl Server {
         {
             return Err(ServerError::AlreadyRunning { pid });
         }
-        let (mut pool, mut link) = (held(self.inherited, &handlers)?, None);
+        if !self.opt.test {
+            shared.prepare()?;
+        }
+        let (mut pool, mut link, mut served) = (held(self.inherited, &handlers)?, None, None);
         let mut waits = is_upgrade;
         let mut takes_over = is_upgrade;
         if let (true, Some(paths)) = (is_upgrade && shared.succession.is_some(), &paths) {
             match takeover::meet(&shared, paths, &addresses).await {
-                Predecessor::Known { link: found, copies } => {
-                    link = Some(Rc::new(found));
+                Predecessor::Known { link: found, number, copies } => {
+                    (link, served) = (Some(Rc::new(found)), number);
                     for (word, listener) in copies {
                         pool.push(polled(word, listener, &handlers)?);
                     }
@@ -565,7 +568,7 @@ impl Server {
             }
         }
         let services: Rc<[Service]> = self.services.into();
-        let mut upgrade = waits;
+        let (mut upgrade, mut serves_on) = (waits, false);
         loop {
             let plan = plan.clone().upgrade(upgrade);
             let record = match (&mut args.record, &self.opt.record) {
@@ -586,21 +589,30 @@ impl Server {
                 link: link.take(),
                 pool,
                 takes_over,
+                serves_on,
             };
             let driver = Driver::new(setup, record)?;
-            let drive = driver.run(&mut from, &mut signals).await;
-            if let Ok(Drive::Anew(sockets)) = drive {
-                // What was still to be told is of the run before.
-                while from.try_recv().is_ok() {}
-                (pool, upgrade, takes_over) = (sockets, false, true);
-                continue;
-            }
+            let sockets = match driver.run(&mut from, &mut signals).await {
+                Ok(Drive::Anew(sockets)) => Ok(sockets),
+                Ok(Drive::Instead(sockets)) => match shared.follower(served).await {
+                    Some(pid) => Err(Err(ServerError::AlreadyRunning { pid })),
+                    None => Ok(sockets),
+                },
+                Ok(Drive::Done(outcome)) => Err(Ok(outcome)),
+                Err(error) => Err(Err(error)),
+            };
+            let ended = match sockets {
+                Ok(sockets) => {
+                    // What was still to be told is of the run before.
+                    while from.try_recv().is_ok() {}
+                    (pool, upgrade, takes_over, serves_on) = (sockets, false, false, true);
+                    continue;
+                }
+                Err(ended) => ended,
+            };
             shared.leave();
             shared.tell_rest().await;
-            return match drive? {
-                Drive::Done(outcome) => Ok(outcome),
-                Drive::Anew(_) => Ok(Outcome::Served),
-            };
+            return ended;
         }
     }
 }

@@ -13,7 +13,7 @@ use crate::inherited;
 use crate::limits::Spare;
 use crate::log::say;
 use crate::notify::Manager;
-use crate::pid_file::{self, FileId, Holder, PathLock, PidFile, with_ending};
+use crate::pid_file::{self, FileId, Holder, NextPidFile, PathLock, PidFile, with_ending};
 use crate::process::Process;
 use fulltimehen::Configuration;
 use std::cell::{Cell, RefCell};
@@ -38,10 +38,12 @@ const OTHERS_FIRST: Duration = Duration::from_millis(300);
 const LOOK: Duration = Duration::from_millis(50);
 /// The pause after a first successor that failed, and the longest one.
 const PAUSES: [Duration; 2] = [Duration::from_secs(1), Duration::from_secs(60)];
-/// How long a service manager that is busy is waited for at the end.
+/// How long a service manager that is busy is waited for at the end, and a program's lock after its connections.
 const LAST_WORDS: Duration = Duration::from_secs(1);
 /// How long a program of another make has to live to count as one that serves.
 const FOREIGN: Duration = Duration::from_secs(5);
+/// How often a program that serves again looks whether another one took over all the same.
+const WATCH: Duration = Duration::from_secs(1);
 /// What a program that waits is told where the service is stopped.
 pub(crate) const STOP: &[u8] = b"stop";
 
@@ -236,8 +238,12 @@ pub(crate) struct Shared {
     /// The processes that got copies and haven't ended.
     known: RefCell<Vec<Process>>,
     children: RefCell<Vec<Child>>,
+    /// The file that is to be this program's pid file.
+    next: RefCell<Option<NextPidFile>>,
     own: RefCell<Option<PidFile>>,
     copies: Cell<Option<tokio::task::JoinHandle<()>>>,
+    /// What stands at the path of the copies where this program's socket does.
+    copies_file: Cell<Option<FileId>>,
     /// The service is to end: no next program is wanted.
     pub(crate) is_over: Cell<bool>,
     /// A next program has taken over.
@@ -272,8 +278,10 @@ impl Shared {
             waiting: RefCell::new(Vec::new()),
             known: RefCell::new(Vec::new()),
             children: RefCell::new(Vec::new()),
+            next: RefCell::new(None),
             own: RefCell::new(None),
             copies: Cell::new(None),
+            copies_file: Cell::new(None),
             is_over: Cell::new(false),
             is_succeeded: Cell::new(false),
         }
@@ -322,27 +330,88 @@ impl Shared {
         }
     }
 
-    /// This program serves from now on: its pid file stands, and copies of its sockets are given.
+    /// Takes the room on the disk that the pid file of this program wants, before anybody can connect to it. Where a
+    /// process has died that left its file, that one will do.
+    ///
+    /// # Errors
+    ///
+    /// [`ServerError::Path`] where the disk is full, say.
+    pub(crate) fn prepare(&self) -> Result<(), ServerError> {
+        let (Some(paths), Some(_)) = (&self.paths, &self.succession) else {
+            return Ok(());
+        };
+        let lock = PathLock::take_and_keep(&paths.pid_file);
+        let made = lock.and_then(|_lock| NextPidFile::make(&paths.pid_file));
+        match made {
+            Ok(next) => *self.next.borrow_mut() = Some(next),
+            Err(error) if !matches!(pid_file::holder(&paths.pid_file), Ok(Holder::Gone(..))) => {
+                return Err(refused(&paths.pid_file, error));
+            }
+            Err(_) => {}
+        }
+        Ok(())
+    }
+
+    /// This program serves from now on: its pid file stands, and copies of its sockets are given. `left` is the file of
+    /// a program that has ended, where the caller has locked it.
     ///
     /// # Errors
     ///
     /// [`ServerError::AlreadyRunning`] where another program serves, unless this one takes over from it.
-    pub(crate) fn claim(self: &Rc<Self>, takes_over: bool) -> Result<(), ServerError> {
+    pub(crate) fn claim(
+        self: &Rc<Self>,
+        takes_over: bool,
+        left: Option<fs::File>,
+    ) -> Result<(), ServerError> {
         let (Some(paths), Some(_)) = (&self.paths, &self.succession) else {
             return Ok(());
         };
         let failed = |error| refused(&paths.pid_file, error);
-        let lock = PathLock::take(&paths.pid_file).map_err(failed)?;
-        if !takes_over
-            && let Holder::Serves(pid) = pid_file::holder(&paths.pid_file).map_err(failed)?
-        {
-            return Err(ServerError::AlreadyRunning { pid });
+        let lock = PathLock::take_and_keep(&paths.pid_file).map_err(failed)?;
+        if self.has_claimed() {
+            self.give_copies(paths);
+            return Ok(());
+        }
+        let left = match pid_file::holder(&paths.pid_file) {
+            Ok(Holder::Serves(pid)) if !takes_over => {
+                return Err(ServerError::AlreadyRunning { pid });
+            }
+            Err(error) if !takes_over => return Err(failed(error)),
+            Ok(Holder::Gone(file, _)) => Some(file),
+            _ => left,
+        };
+        let next = self.next.take().map_or_else(|| NextPidFile::make(&paths.pid_file), Ok);
+        if let (Err(error), None) = (&next, &left) {
+            // The program that serves goes on with its own sockets.
+            return Err(failed(io::Error::new(error.kind(), error.to_string())));
         }
         self.give_copies(paths);
-        let own = PidFile::put(&paths.pid_file).map_err(failed)?;
+        // Those that are gone cost nothing any more.
+        self.waiting();
+        let own = PidFile::put(&paths.pid_file, next, left).map_err(failed)?;
         *self.own.borrow_mut() = Some(own);
         drop(lock);
         Ok(())
+    }
+
+    /// The pid file is this program's.
+    fn has_claimed(&self) -> bool {
+        self.own.borrow().as_ref().is_some_and(PidFile::is_in_place)
+    }
+
+    /// This program serves, and is to be followed: its pid file, by which others see that, and its socket for copies are made again
+    /// where somebody removed them.
+    pub(crate) fn put_again(self: &Rc<Self>, paths: &Paths) {
+        match self.server(paths) {
+            Serving::Own => return self.give_copies_still(paths),
+            Serving::Stopped | Serving::Nobody(..) => {}
+            Serving::Other(_) | Serving::Unknown => return,
+        }
+        let path = paths.pid_file.display();
+        match self.claim(false, None) {
+            Ok(()) => say!(warn, "{path}: somebody removed it, so it was put again"),
+            Err(error) => say!(warn, "{error}"),
+        }
     }
 
     /// From now on a program that waits gets copies of the sockets.
@@ -351,6 +420,7 @@ impl Shared {
             Ok(socket) => socket,
             Err(error) => return say!(warn, "{}: {error}", paths.copies.display()),
         };
+        self.copies_file.set(socket.id());
         let shared = Rc::clone(self);
         let task = tokio::task::spawn_local(async move {
             loop {
@@ -360,6 +430,14 @@ impl Shared {
         });
         self.stop_copies();
         self.copies.set(Some(task));
+    }
+
+    /// This program gives the copies, also where one that was to take over has died on its way.
+    fn give_copies_still(self: &Rc<Self>, paths: &Paths) {
+        let stands = FileId::at(&paths.copies);
+        if stands.is_none() || stands != self.copies_file.get() {
+            self.give_copies(paths);
+        }
     }
 
     /// No more copies are given by this program.
@@ -377,7 +455,7 @@ impl Shared {
         let message = handover::encode(&words[..most]);
         match handover::send(&stream, &message, &fds[..most], Frame::Length).await {
             Ok(()) => {
-                // Those that are gone cost nothing any more, however often one comes and goes.
+                // However often one comes and goes.
                 self.waiting();
                 let mut known = self.known.borrow_mut();
                 let is_new = |it: &&Process| known.iter().all(|one| one.number() != it.number());
@@ -425,7 +503,7 @@ impl Shared {
 
     /// Who serves, as far as this program is asked.
     fn server(&self, paths: &Paths) -> Serving {
-        if self.own.borrow().as_ref().is_some_and(PidFile::is_in_place) {
+        if self.has_claimed() {
             return Serving::Own;
         }
         let holder = match pid_file::holder(&paths.pid_file) {
@@ -456,6 +534,34 @@ impl Shared {
     pub(crate) fn is_followed(&self) -> bool {
         let other = |paths: &Paths| matches!(self.server(paths), Serving::Other(_));
         self.is_succeeded.get() || self.paths.as_ref().is_some_and(other)
+    }
+
+    /// The program that serves after that one is gone, if one does. Its connections end before its lock does.
+    pub(crate) async fn follower(&self, gone: Option<u32>) -> Option<Option<u32>> {
+        let (paths, end) = (self.paths.as_ref()?, Instant::now() + LAST_WORDS);
+        loop {
+            match self.server(paths) {
+                Serving::Other(number) if number != gone => return Some(number),
+                Serving::Other(_) if Instant::now() < end => sleep(LOOK).await,
+                _ => return None,
+            }
+        }
+    }
+
+    /// Until another program serves, which had the sockets from before this one went on.
+    pub(crate) async fn watch(self: Rc<Self>) {
+        let Some(paths) = &self.paths else {
+            return;
+        };
+        while !matches!(self.server(paths), Serving::Other(_)) {
+            sleep(WATCH).await;
+        }
+        self.inputs.give(Input::Overtaken);
+    }
+
+    /// The message that offers these sockets.
+    pub(crate) fn message(held: &[Held]) -> Vec<u8> {
+        handover::encode(&table(held).0)
     }
 
     /// The program that serves is told to end, too.
@@ -521,11 +627,15 @@ impl Shared {
         let (mut to, mut since) = (to, Instant::now());
         // One that takes the sockets and ends is started again after growing pauses, too.
         let mut starter = Starter::new();
+        let mut is_gone = false;
         loop {
             sleep(LOOK).await;
             self.reap();
             match self.server(&paths) {
-                Serving::Other(_) => self.succeed(),
+                Serving::Other(_) => {
+                    is_gone = false;
+                    self.succeed();
+                }
                 Serving::Unknown => {}
                 Serving::Stopped => {
                     // Whoever took over was stopped since, and so was the service.
@@ -535,18 +645,27 @@ impl Shared {
                 }
                 Serving::Nobody(file, pid) => {
                     let who = pid.map(|pid| format!(": process {pid}")).unwrap_or_default();
-                    say!(warn, "the program that took over is gone{who}");
-                    self.reclaim(&paths, &held);
-                    drop(file);
+                    let is_said = std::mem::replace(&mut is_gone, true);
+                    if !is_said {
+                        say!(warn, "the program that took over is gone{who}");
+                    }
+                    if let Err(error) = self.reclaim(file, &held) {
+                        if !is_said {
+                            say!(warn, "{error}; it is tried again each second");
+                        }
+                        sleep(PAUSES[0]).await;
+                    }
                     (to, starter) = (None, Starter::new());
                 }
                 Serving::Own => {
+                    is_gone = false;
                     if self.is_on_its_way(to.as_ref(), since) {
                         continue;
                     }
                     if to.take().is_some() && starter.child.is_none() {
                         starter.fail("took the sockets and has ended");
                     }
+                    self.give_copies_still(&paths);
                     let (stream, process) = self.seek(&paths, &mut starter).await;
                     let (_, fds) = table(&held);
                     match handover::send(&stream, &message, &fds, Frame::ToItsEnd).await {
@@ -570,18 +689,15 @@ impl Shared {
         }
     }
 
-    /// The pid file is this program's again.
-    fn reclaim(self: &Rc<Self>, paths: &Paths, held: &[Held]) {
+    /// The pid file is this program's again, in place of the one that is left.
+    fn reclaim(self: &Rc<Self>, left: fs::File, held: &[Held]) -> Result<(), ServerError> {
         self.is_succeeded.set(false);
         self.inputs.give(Input::Reclaimed);
         *self.held.borrow_mut() = held.to_vec();
         let mut spare = self.spare.replace(Spare::none());
-        let claimed = spare.lend(|| self.claim(true));
+        let claimed = spare.lend(|| self.claim(true, Some(left)));
         self.spare.replace(spare);
-        match claimed {
-            Ok(()) => self.notify(&format!("MAINPID={}", process::id())),
-            Err(error) => say!(warn, "{}: {error}", paths.pid_file.display()),
-        }
+        claimed.map(|()| self.notify(&format!("MAINPID={}", process::id())))
     }
 
     /// Whether the program that got the message will serve, as far as is known.

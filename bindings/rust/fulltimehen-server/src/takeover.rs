@@ -26,8 +26,8 @@ pub(crate) type Addresses = BTreeMap<Place, (String, Address)>;
 
 /// The program that serves, while this one waits.
 pub(crate) enum Predecessor {
-    /// It serves, and it is seen where it ends. Here are copies of its sockets.
-    Known { link: UnixStream, copies: Vec<(String, Listener)> },
+    /// It serves, and it is seen where it ends. Here are its number, and copies of its sockets.
+    Known { link: UnixStream, number: Option<u32>, copies: Vec<(String, Listener)> },
     /// It served, and is gone: there is nothing to wait for.
     Gone,
     /// Nothing is known of one. One of another make may come.
@@ -47,17 +47,17 @@ pub(crate) enum Ended {
 pub(crate) async fn meet(shared: &Shared, paths: &Paths, addresses: &Addresses) -> Predecessor {
     let ask = async {
         loop {
-            match pid_file::holder(&paths.pid_file) {
-                Ok(Holder::Serves(_)) => {}
+            let number = match pid_file::holder(&paths.pid_file) {
+                Ok(Holder::Serves(number)) => number,
                 Ok(Holder::Gone(..)) => return Predecessor::Gone,
                 Ok(Holder::Absent) => return Predecessor::Unknown,
                 Err(error) => {
                     say!(warn, "{}: {error}", paths.pid_file.display());
                     return Predecessor::Unknown;
                 }
-            }
+            };
             match copies(shared, paths, addresses).await {
-                Ok((link, copies)) => return Predecessor::Known { link, copies },
+                Ok((link, copies)) => return Predecessor::Known { link, number, copies },
                 Err(error) => tracing::debug!("no copies yet: {error}"),
             }
             sleep(Duration::from_millis(20)).await;

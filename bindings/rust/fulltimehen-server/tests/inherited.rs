@@ -93,7 +93,7 @@ fn main() {
         if how == "alone" {
             // It listens already, so nobody is refused.
             let mut stream = TcpStream::connect(&address).unwrap();
-            stream.set_read_timeout(Some(Duration::from_secs(20))).unwrap();
+            stream.set_read_timeout(Some(Duration::from_secs(90))).unwrap();
             let mut answer = String::new();
             stream.read_to_string(&mut answer).unwrap();
             assert_eq!(answer, "hello");

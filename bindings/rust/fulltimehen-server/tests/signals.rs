@@ -17,7 +17,7 @@ fn serve() {
         servers.into_iter().for_each(|server| server.join().unwrap());
         println!("ended");
     }
-    thread::sleep(Duration::from_secs(60));
+    thread::sleep(Duration::from_secs(300));
 }
 
 fn run() {
@@ -78,7 +78,7 @@ fn main() {
             kill(Pid::from_raw(child.id() as i32), Signal::SIGTERM).unwrap();
         }
         let expected = if dies_by_interrupt { Signal::SIGINT } else { Signal::SIGTERM };
-        let how = ended(&mut child, 20);
+        let how = ended(&mut child, 90);
         _ = child.kill();
         assert_eq!(how, Some(Some(expected as i32)));
         println!("signals after a run, begun by {shell:?}: ok");

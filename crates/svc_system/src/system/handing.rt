@@ -8,7 +8,8 @@ ghost use Rattle.svc_system.specs.Letters.{Opens, numbers_in};
 ghost use Rattle.svc_base.specs.Items.{list_of};
 ghost use Rattle.svc_system.specs.Offers.{after_answer, has_sent, is_offered, taken};
 
-use super::{Basis, OpenRefused, System, unwatched, with_tables};
+use super::System;
+use super::opening::{Basis, OpenRefused, unwatched, with_tables};
 use crate::handover::{Handed, Handover, Sending, Taking, letter_of};
 use crate::listeners::Bound;
 use crate::numbers::Numbers;

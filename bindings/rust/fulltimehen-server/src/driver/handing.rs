@@ -5,7 +5,7 @@ use crate::handover::{self, PrivateSocket};
 use crate::log::say;
 use crate::pid_file::PathLock;
 use crate::process::Process;
-use crate::succession::{Held, Starter};
+use crate::succession::{Held, Shared, Starter};
 use crate::takeover::{self, Ended};
 use fulltimehen::{Event, FdId, Signal};
 use nix::time::{ClockId, clock_gettime};
@@ -13,6 +13,7 @@ use std::io;
 use std::path::{Path, PathBuf};
 use std::rc::Rc;
 use std::sync::Arc;
+use std::sync::atomic::Ordering;
 use tokio::net::UnixStream;
 use tokio::task::spawn_local;
 
@@ -92,7 +93,8 @@ impl Driver {
             return self.events.push_back(Event::Signal { kind: Signal::Upgrade });
         };
         if !self.claimed {
-            return say!(warn, "SIGQUIT: this program doesn't have all of its addresses yet");
+            let text = "doesn't have all of its addresses, or its pid file, yet";
+            return say!(warn, "SIGQUIT: this program {text}");
         }
         if self.sockets.len() > crate::fds::MOST_FDS {
             return say!(
@@ -102,6 +104,7 @@ impl Driver {
             );
         }
         self.wanted = Wanted::Upgrade;
+        shared.put_again(&paths);
         let task = async move {
             let (stream, process) = shared.seek(&paths, &mut Starter::new()).await;
             shared.inputs.give(Input::Successor(stream, process));
@@ -133,6 +136,19 @@ impl Driver {
             }
         });
         self.see_to_succession(message, process);
+    }
+
+    /// Another program serves: it had the sockets from before this one went on. This one drains, as after a handover.
+    pub(super) fn overtaken(&mut self) {
+        if !matches!(self.wanted, Wanted::Nothing | Wanted::Upgrade) {
+            return;
+        }
+        self.abort_tasks();
+        self.wanted = Wanted::Handover;
+        self.finished.is_awaited.store(true, Ordering::SeqCst);
+        self.handed = self.held();
+        self.see_to_succession(Shared::message(&self.handed), None);
+        self.events.push_back(Event::Signal { kind: Signal::Terminate });
     }
 
     pub(super) fn held(&self) -> Vec<Held> {

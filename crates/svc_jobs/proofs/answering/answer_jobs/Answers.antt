@@ -11,4 +11,4 @@ returns-in-Ok-run_text c =
     (c.as_slice.ensures ∙ c.runs.ensures.runs ∙ due)
     (left.ensures.run (job_parts_of c.args.jobs)
     (record { configuration = refl; flags = c.in-Ok.ensures.options; begins_at_once = c.in-Ok.ensures.eager; jobs = c.in-Ok.ensures.jobs })
-    (sym c.deref-in-Ok.ensures.value) (sym c.in-Ok-into_items.ensures)) c.in-Ok.ensures.edges
+    (sym c.deref-in-Ok.ensures.value) refl) c.in-Ok.ensures.edges

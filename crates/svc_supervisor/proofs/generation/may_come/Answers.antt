@@ -13,7 +13,7 @@ returns-then-not-fits-clause-may c h = absurd (clash false h refl)
 
 pub returns-then-not-fits-clause-means : goal.returns-then-not-fits-clause-means
 returns-then-not-fits-clause-means c all = let g = c.args.generation.now in
-    come-unfit c.fits.result (fits g.core.plan (history g) c.args.event.now) _ c.if-not-fits.true
+    come-unfit c.fits.result (fits g.session.core.plan (history g) c.args.event.now) _ c.if-not-fits.true
     (fits-here g c.args.event.now c.fits.result c.fits.ensures.means all.here)
 
 pub returns-then-not-before_may-clause-may : goal.returns-then-not-before_may-clause-may
@@ -30,7 +30,7 @@ returns-clause-may c h = c.fits.ensures.may.0 c.if-not-fits.false
 
 pub returns-clause-means : goal.returns-clause-means
 returns-clause-means c all = let g = c.args.generation.now in let e = c.args.event.now in
-    come-next c.fits.result (fits g.core.plan (history g) e) c.before_may.result
+    come-next c.fits.result (fits g.session.core.plan (history g) e) c.before_may.result
     (before_may (option_map data_of (option_copied c.args.before)) (data_of g) e) c.old_may.result
     (old_may (channel_to (data_of g) (option_map data_of (option_copied c.args.next))) e)
     c.if-not-fits.false (fits-here g e c.fits.result c.fits.ensures.means all.here)

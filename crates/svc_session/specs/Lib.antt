@@ -1,0 +1,2 @@
+pub mod SessionData
+pub mod Sessions
