@@ -3,3 +3,4 @@ pub mod DrainState
 pub mod DrainEffects
 pub mod DrainFacts
 pub mod DrainDues
+pub mod DrainPuts

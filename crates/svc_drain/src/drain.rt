@@ -15,6 +15,7 @@ ghost use Rattle.svc_moments.specs.Least.{IsLeast};
 ghost use Rattle.svc_drain.specs.declared.stage.Stage.TheVariants.{Running, Offering, CloseTimeout, Grace, Terminating, CutShort};
 ghost use Rattle.svc_drain.specs.DrainState.{DrainStands, IsDrainSettled, OverIs, passes, rest_from, is_broadcast_told, is_cut};
 ghost use Rattle.svc_drain.specs.DrainDues.{is_due_at};
+ghost use Rattle.svc_drain.specs.DrainPuts.{Puts};
 ghost use Rattle.svc_drain.specs.DrainEffects.{still, at_moment, signalled, further, cuts, cut_stage, run, run_told, at_stage, next_stage, gone_on, row_told, stage_told, timeout_told, grace_told, rested_told, shutdown_told, stop_after, stop_told};
 
 use crate::stage::Stage;
@@ -224,9 +225,7 @@ impl Drain {
     fn publish_next(&mut self, over: Option<u64>, actions: &mut Actions)
         requires room { 4 ≤ spare actions.old }
         ensures after { self.new ≡ gone_on self.old over }
-        ensures told { list_of actions.new ≡ list_of actions.old ++ row_told self.old over }
-        ensures room { spare actions.old ≤ spare actions.new + 4 }
-        ensures few { length (list_of actions.new) ≤ length (list_of actions.old) + 4 }
+        ensures tells { Puts (row_told self.old over) actions.old actions.new }
     {
         match self.stage {
             Stage::Running => self.answer(over, actions),
@@ -253,9 +252,7 @@ impl Drain {
         requires running { self.old.stage ≡ Running }
         requires room { 4 ≤ spare actions.old }
         ensures after { self.new ≡ at_stage (next_stage Running self.old.signal self.old.offers over self.old.moment) self.old }
-        ensures told { list_of actions.new ≡ list_of actions.old ++ stage_told Running self.old.signal self.old.offers over self.old.moment }
-        ensures room { spare actions.old ≤ spare actions.new + 4 }
-        ensures few { length (list_of actions.new) ≤ length (list_of actions.old) + 4 }
+        ensures tells { Puts (stage_told Running self.old.signal self.old.offers over self.old.moment) actions.old actions.new }
     {
         match self.signal {
             Some(ShutdownSignal::FastShutdown) => self.answer_fast(actions),
@@ -269,9 +266,7 @@ impl Drain {
     fn answer_fast(&mut self, actions: &mut Actions)
         requires room { 1 ≤ spare actions.old }
         ensures after { self.new ≡ at_stage Terminating self.old }
-        ensures told { list_of actions.new ≡ list_of actions.old ++ Phase ShutdownStarted self.old.moment ∷ [] }
-        ensures room { spare actions.old ≤ spare actions.new + 1 }
-        ensures few { length (list_of actions.new) ≤ length (list_of actions.old) + 1 }
+        ensures tells { Puts (Phase ShutdownStarted self.old.moment ∷ []) actions.old actions.new }
     {
         actions.put(Action::Phase(ExecutionPhase::ShutdownStarted, self.moment));
         self.stage = Stage::Terminating;
@@ -282,9 +277,7 @@ impl Drain {
         requires short { self.old.stage ≡ CutShort started }
         requires room { 1 ≤ spare actions.old }
         ensures after { self.new ≡ at_stage (CutShort true) self.old }
-        ensures told { list_of actions.new ≡ list_of actions.old ++ stage_told (CutShort started) self.old.signal self.old.offers None self.old.moment }
-        ensures room { spare actions.old ≤ spare actions.new + 1 }
-        ensures few { length (list_of actions.new) ≤ length (list_of actions.old) + 1 }
+        ensures tells { Puts (stage_told (CutShort started) self.old.signal self.old.offers None self.old.moment) actions.old actions.new }
     {
         if !started {
             actions.put(Action::Phase(ExecutionPhase::ShutdownStarted, self.moment));
@@ -296,9 +289,7 @@ impl Drain {
     fn answer_terminate(&mut self, actions: &mut Actions)
         requires room { 4 ≤ spare actions.old }
         ensures after { self.new ≡ at_stage (Grace self.old.moment) self.old }
-        ensures told { list_of actions.new ≡ list_of actions.old ++ Broadcast ∷ Phase GracefulTerminate self.old.moment ∷ grace_told self.old.moment }
-        ensures room { spare actions.old ≤ spare actions.new + 4 }
-        ensures few { length (list_of actions.new) ≤ length (list_of actions.old) + 4 }
+        ensures tells { Puts (Broadcast ∷ Phase GracefulTerminate self.old.moment ∷ grace_told self.old.moment) actions.old actions.new }
     {
         actions.put(Action::Broadcast);
         actions.put(Action::Phase(ExecutionPhase::GracefulTerminate, self.moment));
@@ -309,9 +300,7 @@ impl Drain {
     fn answer_upgrade(&mut self, over: Option<u64>, actions: &mut Actions)
         requires room { 4 ≤ spare actions.old }
         ensures after { self.new ≡ at_stage (next_stage Running (Some GracefulUpgrade) self.old.offers over self.old.moment) self.old }
-        ensures told { list_of actions.new ≡ list_of actions.old ++ stage_told Running (Some GracefulUpgrade) self.old.offers over self.old.moment }
-        ensures room { spare actions.old ≤ spare actions.new + 4 }
-        ensures few { length (list_of actions.new) ≤ length (list_of actions.old) + 4 }
+        ensures tells { Puts (stage_told Running (Some GracefulUpgrade) self.old.offers over self.old.moment) actions.old actions.new }
     {
         actions.put(Action::Phase(ExecutionPhase::GracefulUpgradeTransferringFds, self.moment));
         if self.offers {
@@ -327,9 +316,7 @@ impl Drain {
     fn begin_grace(&mut self, actions: &mut Actions)
         requires room { 2 ≤ spare actions.old }
         ensures after { self.new ≡ at_stage (Grace self.old.moment) self.old }
-        ensures told { list_of actions.new ≡ list_of actions.old ++ grace_told self.old.moment }
-        ensures room { spare actions.old ≤ spare actions.new + 2 }
-        ensures few { length (list_of actions.new) ≤ length (list_of actions.old) + 2 }
+        ensures tells { Puts (grace_told self.old.moment) actions.old actions.new }
     {
         actions.put(Action::Phase(ExecutionPhase::ShutdownStarted, self.moment));
         actions.put(Action::Phase(ExecutionPhase::ShutdownGracePeriod, self.moment));
@@ -340,9 +327,7 @@ impl Drain {
     fn end_offer(&mut self, over: Option<u64>, actions: &mut Actions)
         requires room { 1 ≤ spare actions.old }
         ensures after { self.new ≡ at_stage (if is_some over then CloseTimeout else self.old.stage) self.old }
-        ensures told { list_of actions.new ≡ list_of actions.old ++ timeout_told over self.old.moment }
-        ensures room { spare actions.old ≤ spare actions.new + 1 }
-        ensures few { length (list_of actions.new) ≤ length (list_of actions.old) + 1 }
+        ensures tells { Puts (timeout_told over self.old.moment) actions.old actions.new }
     {
         if over.is_some() {
             actions.put(Action::Phase(ExecutionPhase::GracefulUpgradeCloseTimeout, self.moment));
@@ -364,9 +349,7 @@ impl Drain {
     fn end_rest(&mut self, over: Option<u64>, actions: &mut Actions)
         requires room { 3 ≤ spare actions.old }
         ensures after { self.new ≡ at_stage (if is_some (rest_from over self.old.moment) then Grace self.old.moment else self.old.stage) self.old }
-        ensures told { list_of actions.new ≡ list_of actions.old ++ rested_told over self.old.moment }
-        ensures room { spare actions.old ≤ spare actions.new + 3 }
-        ensures few { length (list_of actions.new) ≤ length (list_of actions.old) + 3 }
+        ensures tells { Puts (rested_told over self.old.moment) actions.old actions.new }
     {
         if self.has_rested(over) {
             actions.put(Action::Broadcast);
